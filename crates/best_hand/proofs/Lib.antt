@@ -1,0 +1,4 @@
+pub mod AnyOrder
+pub mod HighestValue
+pub mod Rearrangements
+pub mod Seven

@@ -1,0 +1,3 @@
+// The best hand of seven cards.
+pub mod best;
+pub mod choices;

@@ -1,0 +1,4 @@
+pub mod Ranks
+pub mod Suits
+pub mod Codes
+pub mod Letters

@@ -1,0 +1,69 @@
+// A card: a rank and a suit, so that no value but the 52 cards can be held.
+ghost use mathlib.Core.Path.{_≡_};
+ghost use mathlib.Core.List.{[], _∷_};
+ghost use lib.ListN.{drop};
+ghost use Rattle.std.specs.Results.{Cases};
+ghost use Rattle.std.specs.declared.result.Result.the-variants.{Ok, Err};
+ghost use Rattle.cards.specs.Codes.{code-of, card-with-code};
+ghost use Rattle.cards.specs.Letters.{card-lettered, card-letters, card-in-front};
+use crate::fault::CodeFault;
+use crate::fault::TextFault;
+use crate::rank::Rank;
+use crate::rank::RankPartialEq;
+use crate::suit::Suit;
+use crate::suit::SuitPartialEq;
+
+#[derive(Clone, Copy, PartialEq, Eq)]
+pub struct Card {
+    pub rank: Rank,
+    pub suit: Suit,
+}
+
+impl Card {
+    // 4 × (rank − 2) + suit: 0 for the two of clubs to 51 for the ace of spades.
+    pub fn code(self) -> u8
+        ensures { λ r. ⌜ r ≡ code-of self ⌝ }
+    {
+        4 * (self.rank.number() - 2) + self.suit.number()
+    }
+
+    // The card with this code. Any number may be asked for.
+    pub fn from_code(code: u64) -> Result<Card, CodeFault>
+        ensures { λ r. ⌜ r ≡ card-with-code code ⌝ }
+    {
+        if code > 51 {
+            return Err(CodeFault::Above51);
+        }
+        let rank = Rank::ALL[(code / 4) as usize];
+        let suit = Suit::ALL[(code % 4) as usize];
+        Ok(Card { rank, suit })
+    }
+
+    // The card that two letters stand for, rank first.
+    pub fn from_letters(rank: char, suit: char) -> Result<Card, TextFault>
+        ensures { λ r. ⌜ r ≡ card-lettered rank suit ⌝ }
+    {
+        let rank = Rank::from_letter(rank)?;
+        let suit = Suit::from_letter(suit)?;
+        Ok(Card { rank, suit })
+    }
+
+    pub fn letters(self) -> [char; 2]
+        ensures { λ r. ⌜ r ≡ card-letters self ⌝ }
+    {
+        [self.rank.letter(), self.suit.letter()]
+    }
+
+    // The card at the front of a line, and the rest of the line behind its two letters.
+    pub fn read(line: &[u8]) -> Result<(Card, &[u8]), TextFault>
+        ensures { λ r. ⌜ Cases r (λ p. (card-in-front (now (line .entry)) ≡ Ok (p .0)) × (now (p .1) ≡ drop 2 (now (line .entry)))) (λ e. card-in-front (now (line .entry)) ≡ Err e) ⌝ }
+    {
+        match line {
+            [rank, suit, rest @ ..] => {
+                let card = Card::from_letters(char::from(*rank), char::from(*suit))?;
+                Ok((card, rest))
+            }
+            _ => Err(TextFault::TooShort),
+        }
+    }
+}

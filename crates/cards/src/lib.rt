@@ -1,0 +1,5 @@
+// Cards: the 52 of one deck, by number and by text.
+pub mod card;
+pub mod fault;
+pub mod rank;
+pub mod suit;

@@ -1,0 +1,5 @@
+use lib.ListN.{length}
+use Rattle.hand_line.proofs.seven.+all_different.Given as given
+
+abbrev pub μ-all-different : given.MeasureT-all-different
+μ-all-different l = length (l .cards .now)

@@ -1,0 +1,8 @@
+use mathlib.Core.Path.{_≡_}
+use lib.ListN.{drop}
+use Rattle.hand_line.specs.Seven.{among}
+use Rattle.hand_line.proofs.seven.is_among.Given as given
+
+-- it is not among those before, so the rest decides
+abbrev pub Inv-loop-other : given.InvT-loop-other
+Inv-loop-other l = among (l .card) (drop (l .other-index) (l .others)) ≡ among (l .card) (l .others)

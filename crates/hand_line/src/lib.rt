@@ -1,0 +1,4 @@
+// What the program `hand` answers to a line of cards.
+pub mod answer;
+pub mod seven;
+pub mod worked;

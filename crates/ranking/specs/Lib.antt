@@ -1,0 +1,9 @@
+pub mod Classes
+pub mod Counts
+pub mod Masks
+pub mod Straights
+pub mod Descriptions
+pub mod Arrangement
+pub mod Groups
+pub mod Values
+pub mod Order

@@ -1,0 +1,7 @@
+// The ranking of poker hands: the value of five cards, and the order of values.
+pub mod class;
+pub mod five;
+mod grouping;
+pub mod groups;
+mod straight;
+pub mod value;
