@@ -1,1 +1,2 @@
+pub mod CodeBack
 pub mod Front

@@ -1,6 +1,7 @@
 // A card: a rank and a suit, so that no value but the 52 cards can be held.
 ghost use mathlib.Core.Path.{_≡_};
 ghost use mathlib.Core.List.{[], _∷_};
+ghost use Prim.Native.Nat.{_<_};
 ghost use lib.ListN.{drop};
 ghost use Rattle.std.specs.Results.{Cases};
 ghost use Rattle.std.specs.declared.result.Result.the-variants.{Ok, Err};
@@ -22,14 +23,16 @@ pub struct Card {
 impl Card {
     // 4 × (rank − 2) + suit: 0 for the two of clubs to 51 for the ace of spades.
     pub fn code(self) -> u8
-        ensures { λ r. ⌜ r ≡ code-of self ⌝ }
+        ensures code { λ r. ⌜ r ≡ code-of self ⌝ }
+        ensures reads_back { λ r. ⌜ card-with-code r ≡ Ok self ⌝ }
     {
         4 * (self.rank.number() - 2) + self.suit.number()
     }
 
     // The card with this code. Any number may be asked for.
     pub fn from_code(code: u64) -> Result<Card, CodeFault>
-        ensures { λ r. ⌜ r ≡ card-with-code code ⌝ }
+        ensures card { λ r. ⌜ r ≡ card-with-code code ⌝ }
+        ensures same_code { λ r. ⌜ Cases r (λ c. code-of c ≡ code) (λ _. 51 < code) ⌝ }
     {
         if code > 51 {
             return Err(CodeFault::Above51);
@@ -41,7 +44,8 @@ impl Card {
 
     // The card that two letters stand for, rank first.
     pub fn from_letters(rank: char, suit: char) -> Result<Card, TextFault>
-        ensures { λ r. ⌜ r ≡ card-lettered rank suit ⌝ }
+        ensures card { λ r. ⌜ r ≡ card-lettered rank suit ⌝ }
+        ensures same_letters { λ r. ⌜ Cases r (λ c. card-letters c ≡ rank ∷ suit ∷ []) (λ _. (c : Card) → card-letters c ≡ rank ∷ suit ∷ [] → ⊥) ⌝ }
     {
         let rank = Rank::from_letter(rank)?;
         let suit = Suit::from_letter(suit)?;
@@ -49,7 +53,8 @@ impl Card {
     }
 
     pub fn letters(self) -> [char; 2]
-        ensures { λ r. ⌜ r ≡ card-letters self ⌝ }
+        ensures letters { λ r. ⌜ r ≡ card-letters self ⌝ }
+        ensures reads_back { λ r. ⌜ card-in-front r ≡ Ok self ⌝ }
     {
         [self.rank.letter(), self.suit.letter()]
     }

@@ -1,5 +1,6 @@
 // The rank of a card.
 ghost use mathlib.Core.Path.{_≡_};
+ghost use Rattle.std.specs.Results.{Cases};
 ghost use Rattle.cards.specs.Ranks.{rank-number, rank-letter};
 ghost use Rattle.cards.specs.Letters.{rank-lettered};
 use crate::fault::TextFault;
@@ -68,7 +69,8 @@ impl Rank {
 
     // The rank that a letter stands for. Only these letters: a small `t` is none.
     pub fn from_letter(letter: char) -> Result<Rank, TextFault>
-        ensures { λ r. ⌜ r ≡ rank-lettered letter ⌝ }
+        ensures rank { λ r. ⌜ r ≡ rank-lettered letter ⌝ }
+        ensures same_letter { λ r. ⌜ Cases r (λ k. rank-letter k ≡ letter) (λ _. (k : Rank) → rank-letter k ≡ letter → ⊥) ⌝ }
     {
         match letter {
             '2' => Ok(Rank::Two),

@@ -1,5 +1,6 @@
 // The suit of a card.
 ghost use mathlib.Core.Path.{_≡_};
+ghost use Rattle.std.specs.Results.{Cases};
 ghost use Rattle.cards.specs.Suits.{suit-number, suit-letter};
 ghost use Rattle.cards.specs.Letters.{suit-lettered};
 use crate::fault::TextFault;
@@ -35,7 +36,8 @@ impl Suit {
 
     // The suit that a letter stands for. Only these letters: a capital `C` is none.
     pub fn from_letter(letter: char) -> Result<Suit, TextFault>
-        ensures { λ r. ⌜ r ≡ suit-lettered letter ⌝ }
+        ensures suit { λ r. ⌜ r ≡ suit-lettered letter ⌝ }
+        ensures same_letter { λ r. ⌜ Cases r (λ k. suit-letter k ≡ letter) (λ _. (k : Suit) → suit-letter k ≡ letter → ⊥) ⌝ }
     {
         match letter {
             'c' => Ok(Suit::Clubs),

@@ -1,3 +1,4 @@
-pub mod Different
-pub mod Reading
 pub mod Computed
+pub mod Different
+pub mod Fifteen
+pub mod Reading

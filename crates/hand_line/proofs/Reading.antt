@@ -48,7 +48,7 @@ no-read [] f e = inl refl
 no-read (r ∷ []) f e = inr refl
 no-read (r ∷ s ∷ rest) f e = inr (ap (λ x. in-front x (cards-of rest)) e)
 
-not-seven : (cs : List Card) → (length cs ≡ 7 → ⊥) → if-seven-different (Some cs) ≡ None
+pub not-seven : (cs : List Card) → (length cs ≡ 7 → ⊥) → if-seven-different (Some cs) ≡ None
 not-seven cs ne = ap (λ seven. cond (seven && different cs) (Some cs) None) (ne-eqb (length cs) 7 ne)
 
 -- too few cards before the text ends or goes wrong

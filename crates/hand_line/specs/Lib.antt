@@ -1,3 +1,4 @@
 pub mod Seven
 pub mod Answers
+pub mod Lines
 pub mod Worked

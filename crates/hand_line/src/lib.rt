@@ -1,4 +1,5 @@
 // What the program `hand` answers to a line of cards.
 pub mod answer;
+pub mod line;
 pub mod seven;
 pub mod worked;

@@ -2,6 +2,6 @@
 pub mod class;
 pub mod five;
 mod grouping;
-pub mod groups;
+mod groups;
 mod straight;
 pub mod value;

@@ -6,6 +6,9 @@ ghost use Rattle.ranking.specs.Counts.{held, All-ranks};
 ghost use Rattle.ranking.specs.Masks.{masked};
 ghost use Rattle.ranking.specs.Straights.{Told};
 
+// The bit of the ace, at place 14.
+const ACE: u32 = 16384;
+
 // Where a mask is five ones in a row, the place of the lowest of them: five ones, and no zero between the zeros above and those below.
 fn run_start(mask: u32) -> Option<u32>
     ensures { λ r. ⌜ Cases r ((l : ℕ) → l ≤ 27 → mask ≡ 31 * 2 ^ l → ⊥) (λ l. mask ≡ 31 * 2 ^ l) ⌝ }
@@ -41,7 +44,7 @@ pub(crate) fn straight_start(ranks: [u8; 5]) -> Option<u8>
         return Some(lowest as u8);
     }
     // The ace moved from place 14 to place 1, below the two: a run that is there only now starts with it.
-    let ace_low = mask % 16384 + mask / 16384 * 2;
+    let ace_low = mask % ACE + mask / ACE * 2;
     match run_start(ace_low) {
         Some(_) => Some(1),
         None => None,

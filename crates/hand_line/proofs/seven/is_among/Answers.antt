@@ -13,7 +13,7 @@ loop-other-again c =
     let card = c .args .card in
     let os = c .args .others .now in
     let i = c .loop-other .other-index in
-    sym (among-other card (getD os i no-card) (drop (i + 1) os) (λ e. c .if-code .left (c .code .ensures ∙ e ∙ sym (c .code-in-loop-other .ensures))))
+    sym (among-other card (getD os i no-card) (drop (i + 1) os) (λ e. c .if-code .left (c .code .ensures .code ∙ e ∙ sym (c .code-in-loop-other .ensures .code))))
     ∙ sym (ap (among card) (drop-more os i no-card (c .loop-other-test .taken))) ∙ c .loop-other .inv
 
 pub returns-then-code : need.returns-then-code
@@ -21,7 +21,7 @@ returns-then-code c =
     let card = c .args .card in
     let os = c .args .others .now in
     let i = c .loop-other .other-index in
-    sym (among-same card (getD os i no-card) (drop (i + 1) os) (sym (c .code .ensures) ∙ c .if-code .taken ∙ c .code-in-loop-other .ensures))
+    sym (among-same card (getD os i no-card) (drop (i + 1) os) (sym (c .code .ensures .code) ∙ c .if-code .taken ∙ c .code-in-loop-other .ensures .code))
     ∙ sym (ap (among card) (drop-more os i no-card (c .loop-other-test .taken))) ∙ c .loop-other .inv
 
 pub returns : need.returns
