@@ -1,9 +1,7 @@
 -- The best hand of seven cards.
-use Prim.Native.Nat.{ℕ, _<_}
 use mathlib.Core.Path.{_≡_}
 use mathlib.Core.Bool.{false}
 use mathlib.Core.List.{List, [], _∷_, map}
-use lib.ListN.{length, getD}
 use Rattle.cards.specs.declared.card.Card.{Card}
 use Rattle.ranking.specs.declared.value.Value.{Value}
 use Rattle.ranking.specs.declared.class.Class.the-variants.{NoPair}
@@ -14,7 +12,7 @@ use Rattle.std.specs.shelf.Lists.{All, Has}
 use Rattle.best_hand.specs.declared.best.BestHand.{BestHand}
 use Rattle.best_hand.specs.Choices.{choose}
 
--- the highest of some values; there is always one to choose from
+-- the highest of some values; there are none only for fewer than five cards, which no call has
 abbrev pub highest-value : List Value → Value
 highest-value [] = record { class = NoPair; ranks = [] }
 highest-value (v ∷ vs) = leading lower v vs .1

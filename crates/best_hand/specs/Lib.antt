@@ -1,2 +1,3 @@
-pub mod Choices
 pub mod Best
+pub mod Choices
+pub mod Worked

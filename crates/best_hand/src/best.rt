@@ -23,7 +23,7 @@ impl BestHand {
     pub fn of_seven(cards: &[Card; 7]) -> BestHand
         ensures hand { λ r. ⌜ r ≡ best-hand (now (cards .entry)) ⌝ }
         ensures highest { λ r. ⌜ Highest-of-choices (now (cards .entry)) (r .value) ⌝ }
-        ensures any_order { λ r. ⌜ ((others : List Card) → Shuffled (now (cards .entry)) others → best-hand others ≡ r) ⌝ }
+        ensures any_order { λ r. ⌜ ((others : List Card) → Shuffled (now (cards .entry)) others → best-hand others .value ≡ r .value) ⌝ }
     {
         let values = values_of(&choices(cards));
         let first = highest(&values).unwrap_or(0);

@@ -4,7 +4,7 @@ ghost use Rattle.best_hand.specs.Choices.{choose};
 
 // The 21 choices, in order of places.
 pub fn choices<T: Copy>(seven: &[T; 7]) -> [[T; 5]; 21]
-    ensures { λ r. ⌜ r ≡ choose 5 (now (seven .entry)) ⌝ }
+    ensures in_order_of_places { λ r. ⌜ r ≡ choose 5 (now (seven .entry)) ⌝ }
 {
     let [a, b, c, d, e, f, g] = *seven;
     [

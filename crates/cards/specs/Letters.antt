@@ -1,6 +1,6 @@
 -- A card is written as two letters, rank then suit.
 use Prim.Native.Nat.{ℕ}
-use mathlib.Core.Bool.{Bool, cond}
+use mathlib.Core.Bool.{cond}
 use mathlib.Core.List.{List, [], _∷_}
 use lib.Dec.{eqb}
 use Rattle.std.specs.declared.result.Result.{Result}

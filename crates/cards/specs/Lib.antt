@@ -1,4 +1,5 @@
-pub mod Ranks
-pub mod Suits
 pub mod Codes
 pub mod Letters
+pub mod Ranks
+pub mod Several
+pub mod Suits

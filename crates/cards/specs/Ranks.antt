@@ -22,19 +22,19 @@ rank-number Ace = 14
 
 -- the letter that stands for a rank, as the code of its character: 2 to 9, T, J, Q, K, A
 abbrev pub rank-letter : Rank → ℕ
-rank-letter Two = 50
-rank-letter Three = 51
-rank-letter Four = 52
-rank-letter Five = 53
-rank-letter Six = 54
-rank-letter Seven = 55
-rank-letter Eight = 56
-rank-letter Nine = 57
-rank-letter Ten = 84
-rank-letter Jack = 74
-rank-letter Queen = 81
-rank-letter King = 75
-rank-letter Ace = 65
+rank-letter Two = 50  -- 2
+rank-letter Three = 51  -- 3
+rank-letter Four = 52  -- 4
+rank-letter Five = 53  -- 5
+rank-letter Six = 54  -- 6
+rank-letter Seven = 55  -- 7
+rank-letter Eight = 56  -- 8
+rank-letter Nine = 57  -- 9
+rank-letter Ten = 84  -- T
+rank-letter Jack = 74  -- J
+rank-letter Queen = 81  -- Q
+rank-letter King = 75  -- K
+rank-letter Ace = 65  -- A
 
 -- all ranks, from the lowest
 abbrev pub ranks : List Rank

@@ -12,10 +12,10 @@ suit-number Spades = 3
 
 -- the letter that stands for a suit, as the code of its character: c, d, h, s
 abbrev pub suit-letter : Suit → ℕ
-suit-letter Clubs = 99
-suit-letter Diamonds = 100
-suit-letter Hearts = 104
-suit-letter Spades = 115
+suit-letter Clubs = 99  -- c
+suit-letter Diamonds = 100  -- d
+suit-letter Hearts = 104  -- h
+suit-letter Spades = 115  -- s
 
 abbrev pub suits : List Suit
 suits = Clubs ∷ Diamonds ∷ Hearts ∷ Spades ∷ []

@@ -5,16 +5,14 @@ ghost use Prim.Native.Nat.{_<_};
 ghost use lib.ListN.{drop};
 ghost use Rattle.std.specs.Results.{Cases};
 ghost use Rattle.std.specs.declared.result.Result.the-variants.{Ok, Err};
-ghost use Rattle.cards.specs.Codes.{code-of, card-with-code};
+ghost use Rattle.cards.specs.Codes.{code-of, card-with-code, code-fault-number};
 ghost use Rattle.cards.specs.Letters.{card-lettered, card-letters, card-in-front};
 use crate::fault::CodeFault;
 use crate::fault::TextFault;
 use crate::rank::Rank;
-use crate::rank::RankPartialEq;
 use crate::suit::Suit;
-use crate::suit::SuitPartialEq;
 
-#[derive(Clone, Copy, PartialEq, Eq)]
+#[derive(Clone, Copy)]
 pub struct Card {
     pub rank: Rank,
     pub suit: Suit,
@@ -32,7 +30,7 @@ impl Card {
     // The card with this code. Any number may be asked for.
     pub fn from_code(code: u64) -> Result<Card, CodeFault>
         ensures card { λ r. ⌜ r ≡ card-with-code code ⌝ }
-        ensures same_code { λ r. ⌜ Cases r (λ c. code-of c ≡ code) (λ _. 51 < code) ⌝ }
+        ensures same_code { λ r. ⌜ Cases r (λ c. code-of c ≡ code) (λ fault. (51 < code) × (code-fault-number fault ≡ 4)) ⌝ }
     {
         if code > 51 {
             return Err(CodeFault::Above51);
@@ -61,7 +59,8 @@ impl Card {
 
     // The card at the front of a line, and the rest of the line behind its two letters.
     pub fn read(line: &[u8]) -> Result<(Card, &[u8]), TextFault>
-        ensures { λ r. ⌜ Cases r (λ p. (card-in-front (now (line .entry)) ≡ Ok (p .0)) × (now (p .1) ≡ drop 2 (now (line .entry)))) (λ e. card-in-front (now (line .entry)) ≡ Err e) ⌝ }
+        ensures card { λ r. ⌜ Cases r (λ p. card-in-front (now (line .entry)) ≡ Ok (p .0)) (λ fault. card-in-front (now (line .entry)) ≡ Err fault) ⌝ }
+        ensures rest { λ r. ⌜ Cases r (λ p. now (p .1) ≡ drop 2 (now (line .entry))) (λ _. Unit {0}) ⌝ }
     {
         match line {
             [rank, suit, rest @ ..] => {

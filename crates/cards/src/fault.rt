@@ -10,7 +10,7 @@ pub enum CodeFault {
 
 impl CodeFault {
     pub fn number(self) -> u8
-        ensures { λ r. ⌜ r ≡ code-fault-number self ⌝ }
+        ensures number { λ r. ⌜ r ≡ code-fault-number self ⌝ }
     {
         match self {
             CodeFault::Above51 => 4,

@@ -2,4 +2,5 @@
 pub mod card;
 pub mod fault;
 pub mod rank;
+pub mod several;
 pub mod suit;

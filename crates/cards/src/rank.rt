@@ -5,7 +5,7 @@ ghost use Rattle.cards.specs.Ranks.{rank-number, rank-letter};
 ghost use Rattle.cards.specs.Letters.{rank-lettered};
 use crate::fault::TextFault;
 
-#[derive(Clone, Copy, PartialEq, Eq)]
+#[derive(Clone, Copy)]
 pub enum Rank {
     Two = 2,
     Three,
@@ -42,13 +42,13 @@ impl Rank {
 
     // 2 to 14; the ace is the highest.
     pub fn number(self) -> u8
-        ensures { λ r. ⌜ r ≡ rank-number self ⌝ }
+        ensures number { λ r. ⌜ r ≡ rank-number self ⌝ }
     {
         self as u8
     }
 
     pub fn letter(self) -> char
-        ensures { λ r. ⌜ r ≡ rank-letter self ⌝ }
+        ensures letter { λ r. ⌜ r ≡ rank-letter self ⌝ }
     {
         match self {
             Rank::Two => '2',

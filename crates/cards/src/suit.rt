@@ -5,7 +5,7 @@ ghost use Rattle.cards.specs.Suits.{suit-number, suit-letter};
 ghost use Rattle.cards.specs.Letters.{suit-lettered};
 use crate::fault::TextFault;
 
-#[derive(Clone, Copy, PartialEq, Eq)]
+#[derive(Clone, Copy)]
 pub enum Suit {
     Clubs,
     Diamonds,
@@ -18,13 +18,13 @@ impl Suit {
 
     // 0 to 3, for a card's code; no suit is higher than another.
     pub fn number(self) -> u8
-        ensures { λ r. ⌜ r ≡ suit-number self ⌝ }
+        ensures number { λ r. ⌜ r ≡ suit-number self ⌝ }
     {
         self as u8
     }
 
     pub fn letter(self) -> char
-        ensures { λ r. ⌜ r ≡ suit-letter self ⌝ }
+        ensures letter { λ r. ⌜ r ≡ suit-letter self ⌝ }
     {
         match self {
             Suit::Clubs => 'c',

@@ -15,7 +15,8 @@ use Rattle.std.proofs.shelf.Tests.{cases-lt}
 use Rattle.cards.specs.declared.card.Card.{Card}
 use Rattle.cards.specs.declared.fault.TextFault.{TextFault}
 use Rattle.cards.specs.Letters.{card-lettered}
-use Rattle.hand_line.specs.Seven.{in-front, cards-of, if-seven-different, seven-cards}
+use Rattle.cards.specs.Several.{in-front, cards-of}
+use Rattle.hand_line.specs.Seven.{if-seven-different, seven-cards}
 use Rattle.hand_line.specs.Answers.{answer-for, answer-of}
 use Rattle.hand_line.proofs.Reading.{not-seven}
 

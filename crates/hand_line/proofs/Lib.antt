@@ -1,4 +1,3 @@
-pub mod Computed
-pub mod Different
 pub mod Fifteen
 pub mod Reading
+pub mod WholeInput

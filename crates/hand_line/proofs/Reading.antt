@@ -16,7 +16,8 @@ use Rattle.std.specs.declared.result.Result.the-variants.{Ok, Err}
 use Rattle.cards.specs.declared.card.Card.{Card}
 use Rattle.cards.specs.declared.fault.TextFault.{TextFault}
 use Rattle.cards.specs.Letters.{card-lettered, card-in-front}
-use Rattle.hand_line.specs.Seven.{in-front, cards-of, different, if-seven-different, seven-cards}
+use Rattle.cards.specs.Several.{in-front, cards-of, different}
+use Rattle.hand_line.specs.Seven.{if-seven-different, seven-cards}
 
 -- cards in front of others, where these are cards
 abbrev pub behind : List Card → Option (List Card) → Option (List Card)

@@ -6,7 +6,6 @@ use Rattle.std.specs.Written.{decimal}
 use Rattle.std.specs.declared.option.Option.{Option}
 use Rattle.std.specs.declared.option.Option.the-variants.{Some, None}
 use Rattle.cards.specs.declared.card.Card.{Card}
-use Rattle.ranking.specs.declared.value.Value.{Value}
 use Rattle.ranking.specs.Classes.{class-number}
 use Rattle.best_hand.specs.Best.{best-hand}
 use Rattle.hand_line.specs.declared.answer.Answer.{Answer}
@@ -28,4 +27,10 @@ spaced n = 32 ∷ decimal n
 -- the letters written: `-` (character 45), or the class and the five ranks with a space between
 abbrev pub answer-text : Answer → List ℕ
 answer-text Dash = 45 ∷ []
-answer-text (Best v) = decimal (class-number (v .class)) ++ (spaced (getD (v .ranks) 0 0) ++ (spaced (getD (v .ranks) 1 0) ++ (spaced (getD (v .ranks) 2 0) ++ (spaced (getD (v .ranks) 3 0) ++ spaced (getD (v .ranks) 4 0)))))
+answer-text (Best v) =
+    decimal (class-number (v .class))
+    ++ (spaced (getD (v .ranks) 0 0)
+    ++ (spaced (getD (v .ranks) 1 0)
+    ++ (spaced (getD (v .ranks) 2 0)
+    ++ (spaced (getD (v .ranks) 3 0)
+    ++ spaced (getD (v .ranks) 4 0)))))

@@ -1,4 +1,3 @@
-pub mod Seven
 pub mod Answers
 pub mod Lines
-pub mod Worked
+pub mod Seven

@@ -1,38 +1,13 @@
 -- Seven different cards in a line of text.
 use Prim.Native.Nat.{ℕ}
-use mathlib.Core.Bool.{Bool, true, false, cond, not, _&&_, _||_}
-use mathlib.Core.List.{List, [], _∷_}
+use mathlib.Core.Bool.{cond, _&&_}
+use mathlib.Core.List.{List}
 use lib.Dec.{eqb}
 use lib.ListN.{length}
 use Rattle.std.specs.declared.option.Option.{Option}
 use Rattle.std.specs.declared.option.Option.the-variants.{Some, None}
-use Rattle.std.specs.declared.result.Result.{Result}
-use Rattle.std.specs.declared.result.Result.the-variants.{Ok, Err}
 use Rattle.cards.specs.declared.card.Card.{Card}
-use Rattle.cards.specs.declared.fault.TextFault.{TextFault}
-use Rattle.cards.specs.Codes.{code-of}
-use Rattle.cards.specs.Letters.{card-lettered}
-
--- a card in front of others, where there is one and where they are cards
-abbrev pub in-front : Result Card TextFault → Option (List Card) → Option (List Card)
-in-front (Ok c) (Some cs) = Some (c ∷ cs)
-in-front (Ok c) None = None
-in-front (Err e) cs = None
-
--- the cards of a text that is nothing but cards, two letters each
-abbrev pub cards-of : List ℕ → Option (List Card)
-cards-of [] = Some []
-cards-of (r ∷ []) = None
-cards-of (r ∷ s ∷ rest) = in-front (card-lettered r s) (cards-of rest)
-
-abbrev pub among : Card → List Card → Bool
-among c [] = false
-among c (d ∷ ds) = eqb (code-of c) (code-of d) || among c ds
-
--- no card is there twice
-abbrev pub different : List Card → Bool
-different [] = true
-different (c ∷ cs) = not (among c cs) && different cs
+use Rattle.cards.specs.Several.{different, cards-of}
 
 abbrev pub if-seven-different : Option (List Card) → Option (List Card)
 if-seven-different None = None

@@ -16,7 +16,7 @@ pub enum Answer {
 
 impl Answer {
     pub fn to_line(line: &[u8]) -> Answer
-        ensures { λ r. ⌜ r ≡ answer-of (now (line .entry)) ⌝ }
+        ensures answer { λ r. ⌜ r ≡ answer-of (now (line .entry)) ⌝ }
     {
         match seven_cards(line) {
             Some(cards) => Answer::Best(BestHand::of_seven(&cards).value),

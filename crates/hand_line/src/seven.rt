@@ -1,13 +1,14 @@
 // Reading seven different cards from a line.
 ghost use mathlib.Core.Path.{_≡_};
-ghost use Rattle.hand_line.specs.Seven.{among, different, seven-cards};
+ghost use Rattle.hand_line.specs.Seven.{seven-cards};
 use cards::card::Card;
 use cards::rank::Rank;
+use cards::several::all_different;
 use cards::suit::Suit;
 
 // The cards of a line that is exactly seven different cards, fourteen letters; any other line gives none.
 pub fn seven_cards(line: &[u8]) -> Option<[Card; 7]>
-    ensures { λ r. ⌜ r ≡ seven-cards (now (line .entry)) ⌝ }
+    ensures seven_different { λ r. ⌜ r ≡ seven-cards (now (line .entry)) ⌝ }
 {
     let mut cards = [Card {
         rank: Rank::Two,
@@ -29,24 +30,4 @@ pub fn seven_cards(line: &[u8]) -> Option<[Card; 7]>
     } else {
         None
     }
-}
-
-fn all_different(cards: &[Card]) -> bool
-    ensures { λ r. ⌜ r ≡ different (now (cards .entry)) ⌝ }
-{
-    match cards {
-        [] => true,
-        [first, rest @ ..] => !is_among(*first, rest) & all_different(rest),
-    }
-}
-
-fn is_among(card: Card, others: &[Card]) -> bool
-    ensures { λ r. ⌜ r ≡ among card (now (others .entry)) ⌝ }
-{
-    for other in others {
-        if card.code() == other.code() {
-            return true;
-        }
-    }
-    false
 }

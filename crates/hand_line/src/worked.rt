@@ -3,7 +3,7 @@ ghost use mathlib.Core.Path.{_≡_};
 ghost use mathlib.Core.List.{[], _∷_};
 ghost use lib.Chars.{codes};
 ghost use Rattle.hand_line.specs.Answers.{answer-of};
-ghost use Rattle.hand_line.specs.Worked.{Worked-hands};
+ghost use Rattle.best_hand.specs.Worked.{Worked-hands};
 use crate::answer::Answer;
 
 // A royal flush, a straight with the ace low, and a hand in which the ace joins no ends.

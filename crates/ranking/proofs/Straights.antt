@@ -16,7 +16,8 @@ use Rattle.std.proofs.shelf.Tests.{eq-eqb, ne-eqb, cases-lt}
 use Rattle.std.proofs.shelf.Ways.{tells, eqb-tells, same-from-decides, decides-eqb}
 use Rattle.ranking.specs.Counts.{held, some-of, All-ranks}
 use Rattle.ranking.specs.Masks.{masked}
-use Rattle.ranking.specs.Straights.{has-rank, run-from, straight-starts, starts-at, Told}
+use Rattle.ranking.specs.Straights.{has-rank, run-from, straight-starts}
+use Rattle.ranking.specs.Masks.{starts-at, Told}
 use Rattle.ranking.proofs.Digits.{digit, digit-at, digit-below, digit-of-zero, ones-zero, ones-shifted, run-digit, run-place, only-run}
 use Rattle.ranking.proofs.Masks.{digit-masked, ones-masked, masked-lt, held-low}
 

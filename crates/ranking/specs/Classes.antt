@@ -1,6 +1,5 @@
 -- The ten classes of hands and their numbers.
 use Prim.Native.Nat.{ℕ}
-use mathlib.Core.List.{List, [], _∷_}
 use Rattle.ranking.specs.declared.class.Class.{Class}
 use Rattle.ranking.specs.declared.class.Class.the-variants.{NoPair, OnePair, TwoPairs, ThreeOfAKind, Straight, Flush, FullHouse, FourOfAKind, StraightFlush, RoyalFlush}
 

@@ -1,11 +1,11 @@
 -- What each class describes. A hand may meet several descriptions; its class is the best of them.
 use Prim.Native.Nat.{ℕ}
-use mathlib.Core.Bool.{Bool, true, cond, not, _&&_, _||_}
+use mathlib.Core.Bool.{Bool, true, cond, not, _&&_}
 use mathlib.Core.List.{List, [], _∷_, map}
 use lib.Dec.{eqb, leb}
 use Rattle.cards.specs.declared.card.Card.{Card}
 use Rattle.cards.specs.Ranks.{rank-number}
-use Rattle.cards.specs.Suits.{suit-number}
+use Rattle.cards.specs.Suits.{suit-number, suits}
 use Rattle.ranking.specs.declared.class.Class.{Class}
 use Rattle.ranking.specs.declared.class.Class.the-variants.{NoPair, OnePair, TwoPairs, ThreeOfAKind, Straight, Flush, FullHouse, FourOfAKind, StraightFlush, RoyalFlush}
 use Rattle.ranking.specs.Counts.{held, some-of, some-rank}
@@ -24,7 +24,7 @@ all-of-suit s (c ∷ h) = eqb (suit-number (c .suit)) s && all-of-suit s h
 
 -- all cards have the same suit
 abbrev pub one-suit : List Card → Bool
-one-suit h = some-of (λ s. all-of-suit s h) (0 ∷ 1 ∷ 2 ∷ 3 ∷ [])
+one-suit h = some-of (λ s. all-of-suit s h) (map suit-number suits)
 
 -- n cards of the same rank
 abbrev pub of-a-kind : ℕ → (ℕ → ℕ) → Bool

@@ -1,9 +1,9 @@
+pub mod Arrangement
 pub mod Classes
 pub mod Counts
-pub mod Masks
-pub mod Straights
 pub mod Descriptions
-pub mod Arrangement
 pub mod Groups
-pub mod Values
+pub mod Masks
 pub mod Order
+pub mod Straights
+pub mod Values

@@ -1,12 +1,8 @@
 -- Straights. `f r` tells how many cards of the hand have rank r.
-use Prim.Native.Nat.{ℕ, _+_, _≤_}
-use mathlib.Core.Path.{_≡_}
-use mathlib.Core.Bool.{Bool, false, cond, _&&_}
+use Prim.Native.Nat.{ℕ, _+_}
+use mathlib.Core.Bool.{Bool, cond, _&&_}
 use mathlib.Core.List.{List, [], _∷_}
 use lib.Dec.{eqb, leb}
-use Rattle.std.specs.Options.{isSome}
-use Rattle.std.specs.declared.option.Option.{Option}
-use Rattle.std.specs.declared.option.Option.the-variants.{Some, None}
 use Rattle.ranking.specs.Counts.{some-of}
 
 -- the hand has a card of rank r, where the ace also counts 1
@@ -23,13 +19,3 @@ straight-starts = 10 ∷ 9 ∷ 8 ∷ 7 ∷ 6 ∷ 5 ∷ 4 ∷ 3 ∷ 2 ∷ 1 ∷ [
 
 abbrev pub straight : (ℕ → ℕ) → Bool
 straight f = some-of (run-from f) straight-starts
-
--- does the straight that was told run from k?
-abbrev pub starts-at : Option ℕ → ℕ → Bool
-starts-at None k = false
-starts-at (Some l) k = eqb l k
-
--- What is told of a straight: whether the hand has one, and from which rank it runs.
-pub record Told (f : ℕ → ℕ) (start : Option ℕ) : Type 0 where
-  pub there : straight f ≡ isSome start
-  pub runs : (k : ℕ) → 1 ≤ k → k ≤ 10 → run-from f k ≡ starts-at start k

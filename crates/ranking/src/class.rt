@@ -20,7 +20,7 @@ pub enum Class {
 impl Class {
     // 0 to 9; the higher, the better.
     pub fn number(self) -> u8
-        ensures { λ r. ⌜ r ≡ class-number self ⌝ }
+        ensures number { λ r. ⌜ r ≡ class-number self ⌝ }
     {
         self as u8
     }

@@ -3,10 +3,10 @@ ghost use mathlib.Core.Path.{_≡_};
 ghost use mathlib.Core.Bool.{cond};
 ghost use mathlib.Core.List.{[], _∷_};
 ghost use Rattle.std.specs.Options.{isSome};
-ghost use Rattle.ranking.specs.Counts.{held, All-ranks};
-ghost use Rattle.ranking.specs.Straights.{starts-at};
+ghost use Rattle.ranking.specs.Counts.{All-ranks};
+ghost use Rattle.ranking.specs.Masks.{starts-at};
 ghost use Rattle.ranking.specs.Descriptions.{ranks-of, one-suit};
-ghost use Rattle.ranking.specs.Groups.{groups-of, joined-class};
+ghost use Rattle.ranking.specs.Groups.{joined-class};
 ghost use Rattle.ranking.specs.Values.{value-of, Best-described, Well-read};
 use crate::class::Class;
 use crate::grouping::grouped;
@@ -28,13 +28,13 @@ pub fn value_of_five(hand: &[Card; 5]) -> Value
     Value { class, ranks }
 }
 
-// A straight with the ace low reads 5 4 3 2 1; any other hand as it is arranged.
-fn read_from(start: Option<u8>, arranged: [u8; 5]) -> [u8; 5]
-    ensures { λ r. ⌜ r ≡ cond (starts-at start 1) (5 ∷ 4 ∷ 3 ∷ 2 ∷ 1 ∷ []) arranged ⌝ }
+// A straight with the ace low reads 5 4 3 2 1; any other hand by its groups.
+fn read_from(start: Option<u8>, by_groups: [u8; 5]) -> [u8; 5]
+    ensures { λ r. ⌜ r ≡ cond (starts-at start 1) (5 ∷ 4 ∷ 3 ∷ 2 ∷ 1 ∷ []) «by_groups» ⌝ }
 {
     match start {
         Some(1) => [5, 4, 3, 2, 1],
-        _ => arranged,
+        _ => by_groups,
     }
 }
 

@@ -2,6 +2,5 @@
 pub mod class;
 pub mod five;
 mod grouping;
-mod groups;
 mod straight;
 pub mod value;

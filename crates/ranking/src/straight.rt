@@ -4,10 +4,10 @@ ghost use Prim.Native.Nat.{ℕ, _+_, _*_, _^_, _<_, _≤_};
 ghost use Rattle.std.specs.Options.{Cases};
 ghost use Rattle.ranking.specs.Counts.{held, All-ranks};
 ghost use Rattle.ranking.specs.Masks.{masked};
-ghost use Rattle.ranking.specs.Straights.{Told};
+ghost use Rattle.ranking.specs.Masks.{Told};
 
 // The bit of the ace, at place 14.
-const ACE: u32 = 16384;
+const ACE: u32 = 1 << 14;
 
 // Where a mask is five ones in a row, the place of the lowest of them: five ones, and no zero between the zeros above and those below.
 fn run_start(mask: u32) -> Option<u32>

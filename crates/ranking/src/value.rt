@@ -1,5 +1,6 @@
 // The value of a hand, and the order of values.
 ghost use mathlib.Core.Path.{_≡_};
+ghost use mathlib.Core.Bool.{false};
 ghost use Rattle.ranking.specs.Order.{lower, lower-ranks};
 use crate::class::Class;
 use search::Ranked;
@@ -15,7 +16,10 @@ pub struct Value {
 pub impl Ranked for Value as ValueRanked {
     ghost below = { lower };
 
-    fn is_below(&self, other: &Value) -> bool {
+    fn is_below(&self, other: &Value) -> bool
+        ensures exceeded { λ r. ⌜ r ≡ lower (now (self .entry)) (now (other .entry)) ⌝ }
+        ensures level_is_same { λ r. ⌜ (r ≡ false → lower (now (other .entry)) (now (self .entry)) ≡ false → now (self .entry) ≡ now (other .entry)) ⌝ }
+    {
         let class = self.class.number();
         let other_class = other.class.number();
         if class != other_class {

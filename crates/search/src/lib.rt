@@ -13,7 +13,7 @@ pub trait Ranked {
     law chain: { (x y z : Self) → below x y ≡ false → below y z ≡ false → below x z ≡ false };
 
     fn is_below(&self, other: &Self) -> bool
-        ensures { λ r. ⌜ r ≡ below (now (self .entry)) (now (other .entry)) ⌝ };
+        ensures exceeded { λ r. ⌜ r ≡ below (now (self .entry)) (now (other .entry)) ⌝ };
 }
 
 // The place of the first thing that none exceeds, or none for an empty list.
@@ -26,7 +26,8 @@ pub fn highest<T: Ranked>(items: &[T]) -> Option<usize>
     }
     let mut best = 0;
     for i in 1..items.len() {
-        if items[best].is_below(&items[i]) {
+        let exceeded = items[best].is_below(&items[i]);
+        if exceeded {
             best = i;
         }
     }

@@ -9,7 +9,7 @@ use Rattle.std.specs.declared.option.Option.the-variants.{Some}
 use Rattle.search.specs.Highest.{First-highest}
 use Rattle.search.proofs.Leads.{ranks-from-laws, is-highest-place}
 use Rattle.search.proofs.highest.Needs as need
-use Rattle.search.proofs.highest.Needs.{then-is-below, else-is-below}
+use Rattle.search.proofs.highest.Needs.{then-exceeded, else-exceeded}
 
 pub loop-i-again : need.loop-i-again
 loop-i-again g c =
@@ -20,9 +20,9 @@ loop-i-again g c =
     let x = c .index-items-i .result in
     let y = c .index-items-best .result in
     let within : i < length xs = omega arith in
-    elim (c .if-is-below .came) [
-      | then-is-below w ↦ rw (w .best-is) (first-best-takes o xs i b x y (c .loop-i .inv) within (c .index-items-i .is) (c .index-items-best .is) (sym (c .is-below .ensures) ∙ w .if-is-below .taken))
-      | else-is-below w ↦ rw (w .best-is) (first-best-keeps o xs i b x y (c .loop-i .inv) within (c .index-items-i .is) (c .index-items-best .is) (sym (c .is-below .ensures) ∙ w .if-is-below .left))
+    elim (c .if-exceeded .came) [
+      | then-exceeded w ↦ rw (w .best-is) (first-best-takes o xs i b x y (c .loop-i .inv) within (c .index-items-i .is) (c .index-items-best .is) (sym (c .is-below-exceeded .ensures .exceeded) ∙ w .if-exceeded .taken))
+      | else-exceeded w ↦ rw (w .best-is) (first-best-keeps o xs i b x y (c .loop-i .inv) within (c .index-items-i .is) (c .index-items-best .is) (sym (c .is-below-exceeded .ensures .exceeded) ∙ w .if-exceeded .left))
     ]
 
 pub returns : need.returns

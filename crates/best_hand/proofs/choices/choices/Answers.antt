@@ -9,6 +9,9 @@ pub returns : need.returns
 returns g c =
     let xs = c .args .seven .now in
     let seven : length xs ≡ 7 = search needs in
-    ap (choose 5)
-    (seven-items xs (c .index-seven-0 .result) (c .index-seven-1 .result) (c .index-seven-2 .result) (c .index-seven-3 .result) (c .index-seven-4 .result)
-    (c .index-seven-5 .result) (c .index-seven-6 .result) seven)
+    record {
+      in-order-of-places =
+          ap (choose 5)
+          (seven-items xs (c .index-seven-0 .result) (c .index-seven-1 .result) (c .index-seven-2 .result) (c .index-seven-3 .result) (c .index-seven-4 .result)
+          (c .index-seven-5 .result) (c .index-seven-6 .result) seven);
+    }

@@ -1,6 +1,6 @@
 use mathlib.Core.Path.{_≡_}
 use lib.ListN.{length, take}
-use Rattle.hand_line.specs.Seven.{cards-of}
+use Rattle.cards.specs.Several.{cards-of}
 use Rattle.hand_line.proofs.Reading.{behind}
 use Rattle.hand_line.proofs.seven.seven_cards.Given as given
 

@@ -17,5 +17,5 @@ returns c =
     let d : Card = record { rank = Two; suit = Clubs } in
     let items = ap ranks-of (five-items h d (c .told-hand)) in
     let ranks : c .number .result ∷ c .number-2 .result ∷ c .number-3 .result ∷ c .number-4 .result ∷ c .number-5 .result ∷ [] ≡ ranks-of h
-    = rw (c .number .ensures, c .number-2 .ensures, c .number-3 .ensures, c .number-4 .ensures, c .number-5 .ensures) items in
+    = rw (c .number .ensures .number, c .number-2 .ensures .number, c .number-3 .ensures .number, c .number-4 .ensures .number, c .number-5 .ensures .number) items in
     record { ranks = ranks; lawful = subst All-ranks (sym ranks) (ranks-lawful h) }

@@ -18,5 +18,5 @@ returns c =
     let s = c .number-suit .result in
     let first = suit-of-first (getD h 0 d) (getD h 1 d ∷ getD h 2 d ∷ getD h 3 d ∷ getD h 4 d ∷ []) in
     and-four (eqb (c .number .result) s) (eqb (c .number-2 .result) s) (eqb (c .number-3 .result) s) (eqb (c .number-4 .result) s)
-    ∙ rw (c .number .ensures, c .number-2 .ensures, c .number-3 .ensures, c .number-4 .ensures, c .number-suit .ensures) (sym first)
+    ∙ rw (c .number .ensures .number, c .number-2 .ensures .number, c .number-3 .ensures .number, c .number-4 .ensures .number, c .number-suit .ensures .number) (sym first)
     ∙ ap one-suit (five-items h d (c .told-hand))

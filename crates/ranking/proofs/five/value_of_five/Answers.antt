@@ -3,7 +3,7 @@ use mathlib.Core.Bool.{cond}
 use mathlib.Core.List.{[], _∷_}
 use lib.Dec.{lit≤}
 use Rattle.ranking.specs.Counts.{held}
-use Rattle.ranking.specs.Straights.{Told}
+use Rattle.ranking.specs.Masks.{Told}
 use Rattle.ranking.specs.Descriptions.{ranks-of, class-of}
 use Rattle.ranking.specs.Groups.{groups-of}
 use Rattle.ranking.specs.Values.{Best-described, Well-read, read-ranks, value-of}

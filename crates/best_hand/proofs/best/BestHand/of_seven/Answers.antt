@@ -20,7 +20,7 @@ returns c =
     let vs = c .values-of-values .result in
     let d : Value = record { class = NoPair; ranks = [] } in
     let all = values-of-choices cards in
-    let values-are : vs ≡ all = c .values-of-values .ensures ∙ ap (map value-of) (c .choices .ensures) in
+    let values-are : vs ≡ all = c .values-of-values .ensures ∙ ap (map value-of) (c .choices .ensures .in-order-of-places) in
     let some-value : 0 < length vs = search needs in
     let value-is : getD vs (c .unwrap-or-first .result) d ≡ highest-value all
     = ap (λ p. getD vs p d) (c .unwrap-or-first .ensures ∙ ap (λ r. valueOr r 0) (c .highest .ensures .place)) ∙ highest-stands vs d some-value ∙ ap highest-value values-are in
@@ -28,5 +28,5 @@ returns c =
     record {
       hand = hand-is;
       highest = subst (Highest-of-choices cards) (sym value-is) (highest-value-is-one all (subst (λ l. 0 < length l) values-are some-value), none-exceeds-highest all);
-      any-order = λ others shuffled. best-in-any-order cards others shuffled ∙ sym hand-is;
+      any-order = λ others shuffled. ap (λ hand. hand .value) (best-in-any-order cards others shuffled ∙ sym hand-is);
     }

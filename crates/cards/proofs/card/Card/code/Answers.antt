@@ -7,5 +7,5 @@ use Rattle.cards.proofs.card.Card.code.Needs as need
 pub returns : need.returns
 returns c =
     let code : 4 * (c .number .result - 2) + c .number-2 .result ≡ code-of (c .args .self)
-    = ap₂ (λ r s. 4 * (r - 2) + s) (c .number .ensures) (c .number-2 .ensures) in
+    = ap₂ (λ r s. 4 * (r - 2) + s) (c .number .ensures .number) (c .number-2 .ensures .number) in
     record { code = code; reads-back = ap card-with-code code ∙ code-reads-back (c .args .self) }

@@ -11,7 +11,9 @@ use Rattle.cards.proofs.card.Card.read.Needs as need
 pub returns-in-Continue-card : need.returns-in-Continue-card
 returns-in-Continue-card c =
     let line = c .args .line .now in
-    let long : 2 ≤ length line = omega (arith, ltb-false) in (
-      front-letters line long ∙ ap₂ card-lettered (sym (c .from .ensures)) (sym (c .from-in-len2-up .ensures)) ∙ sym (c .in-Continue-card .ensures tt .card),
-      take-rest line 2,
-    )
+    let long : 2 ≤ length line = omega (arith, ltb-false) in
+    record {
+      card =
+          front-letters line long ∙ ap₂ card-lettered (sym (c .from .ensures)) (sym (c .from-in-len2-up .ensures)) ∙ sym (c .in-Continue-card .ensures tt .card);
+      rest = take-rest line 2;
+    }

@@ -10,4 +10,4 @@ pub returns : need.returns
 returns c text stands =
     let line = c .args .self .now in
     let whole : line .len - 0 ≡ line .len = omega arith in
-    c .to-line .ensures ∙ ap answer-of (ap (λ n. take n (line .bytes)) whole ∙ stands) ∙ fifteen-tell text
+    c .to-line .ensures .answer ∙ ap answer-of (ap (λ n. take n (line .bytes)) whole ∙ stands) ∙ fifteen-tell text

@@ -2,12 +2,12 @@
 use mathlib.Core.Path.{_≡_, refl, ap}
 use mathlib.Core.Bool.{true, false, _||_}
 use mathlib.Core.List.{List, [], _∷_}
 use Rattle.cards.specs.declared.card.Card.{Card}
 use Rattle.cards.specs.declared.rank.Rank.the-variants.{Two}
 use Rattle.cards.specs.declared.suit.Suit.the-variants.{Clubs}
 use Rattle.std.proofs.shelf.Tests.{eq-eqb, ne-eqb}
 use Rattle.cards.specs.Codes.{code-of}
-use Rattle.hand_line.specs.Seven.{among}
+use Rattle.cards.specs.Several.{among}
 
 -- the card by which a read past the end of a list of cards is told
 abbrev pub no-card : Card

@@ -1,5 +1,5 @@
 use lib.ListN.{length}
-use Rattle.hand_line.proofs.seven.+all_different.Given as given
+use Rattle.cards.proofs.several.+all_different.Given as given
 
 abbrev pub μ-all-different : given.MeasureT-all-different
 μ-all-different l = length (l .cards .now)

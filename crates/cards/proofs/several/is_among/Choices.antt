@@ -1,7 +1,7 @@
 use mathlib.Core.Path.{_≡_}
 use lib.ListN.{drop}
-use Rattle.hand_line.specs.Seven.{among}
-use Rattle.hand_line.proofs.seven.is_among.Given as given
+use Rattle.cards.specs.Several.{among}
+use Rattle.cards.proofs.several.is_among.Given as given
 
 -- it is not among those before, so the rest decides
 abbrev pub Inv-loop-other : given.InvT-loop-other
