@@ -2,7 +2,9 @@
 use Prim.Native.Nat.{ℕ}
 use mathlib.Core.Bool.{cond}
 use mathlib.Core.List.{List, [], _∷_}
+use mathlib.Core.Path.{_≡_}
 use lib.Dec.{eqb}
+use Rattle.std.specs.Results.{Cases}
 use Rattle.std.specs.declared.result.Result.{Result}
 use Rattle.std.specs.declared.result.Result.the-variants.{Ok, Err}
 use Rattle.cards.specs.declared.card.Card.{Card}
@@ -38,6 +40,10 @@ card-lettered r s = with-rank (rank-lettered r) (suit-lettered s)
 
 abbrev pub card-letters : Card → List ℕ
 card-letters c = rank-letter (c .rank) ∷ suit-letter (c .suit) ∷ []
+
+-- the card found has these letters; where none is found, no card has them
+abbrev pub Written-so : ℕ → ℕ → Result Card TextFault → Type 0
+Written-so r s found = Cases found (λ c. card-letters c ≡ r ∷ s ∷ []) (λ _. (c : Card) → card-letters c ≡ r ∷ s ∷ [] → ⊥)
 
 -- the card in the first two letters of a line
 abbrev pub card-in-front : List ℕ → Result Card TextFault

@@ -1,12 +1,11 @@
 // A card: a rank and a suit, so that no value but the 52 cards can be held.
 ghost use mathlib.Core.Path.{_≡_};
-ghost use mathlib.Core.List.{[], _∷_};
 ghost use Prim.Native.Nat.{_<_};
 ghost use lib.ListN.{drop};
 ghost use Rattle.std.specs.Results.{Cases};
 ghost use Rattle.std.specs.declared.result.Result.the-variants.{Ok, Err};
 ghost use Rattle.cards.specs.Codes.{code-of, card-with-code, code-fault-number};
-ghost use Rattle.cards.specs.Letters.{card-lettered, card-letters, card-in-front};
+ghost use Rattle.cards.specs.Letters.{card-lettered, card-letters, card-in-front, Written-so};
 use crate::fault::CodeFault;
 use crate::fault::TextFault;
 use crate::rank::Rank;
@@ -43,7 +42,7 @@ impl Card {
     // The card that two letters stand for, rank first.
     pub fn from_letters(rank: char, suit: char) -> Result<Card, TextFault>
         ensures card { λ r. ⌜ r ≡ card-lettered rank suit ⌝ }
-        ensures same_letters { λ r. ⌜ Cases r (λ c. card-letters c ≡ rank ∷ suit ∷ []) (λ _. (c : Card) → card-letters c ≡ rank ∷ suit ∷ [] → ⊥) ⌝ }
+        ensures same_letters { λ r. ⌜ Written-so rank suit r ⌝ }
     {
         let rank = Rank::from_letter(rank)?;
         let suit = Suit::from_letter(suit)?;

@@ -25,4 +25,7 @@ module _ {X : Type 0} (below : X → X → Bool) where
   -- What the place promises: none exceeds what stands there, and it exceeds everything before it.
   abbrev pub First-highest : List X → Option ℕ → Type 0
   First-highest xs None = length xs ≡ 0
-  First-highest xs (Some p) = (p < length xs) × ((k : ℕ) (d : X) → k < length xs → below (getD xs p d) (getD xs k d) ≡ false) × ((k : ℕ) (d : X) → k < p → below (getD xs k d) (getD xs p d) ≡ true)
+  First-highest xs (Some p) =
+      (p < length xs)
+      × ((k : ℕ) (d : X) → k < length xs → below (getD xs p d) (getD xs k d) ≡ false)
+      × ((k : ℕ) (d : X) → k < p → below (getD xs k d) (getD xs p d) ≡ true)
