@@ -1,7 +1,7 @@
 -- A card among others, one at a time.
-use mathlib.Core.Path.{_≡_, refl, ap}
-use mathlib.Core.Bool.{true, false, _||_}
-use mathlib.Core.List.{List, [], _∷_}
+use mathlib.Core.Path.{_≡_, ap}
+use mathlib.Core.Bool.{true, _||_}
+use mathlib.Core.List.{List, _∷_}
 use Rattle.cards.specs.declared.card.Card.{Card}
 use Rattle.cards.specs.declared.rank.Rank.the-variants.{Two}
 use Rattle.cards.specs.declared.suit.Suit.the-variants.{Clubs}

@@ -1,6 +1,6 @@
 -- The definition of the highest place keeps its promise, and no other place does.
 use mathlib.Core.Path.{_≡_, refl, sym, ap, subst, _∙_}
-use mathlib.Core.Bool.{Bool, true, false, cond}
+use mathlib.Core.Bool.{Bool, true, false}
 use mathlib.Core.List.{List, [], _∷_}
 use mathlib.Core.Logic.{⊎-elim}
 use Prim.Native.Nat.{ℕ, zero, suc, _<_, zero-le, suc-le-suc}
@@ -10,7 +10,7 @@ use Rattle.std.specs.Slices.{Ranks}
 use Rattle.std.specs.shelf.Bests.{FirstBest}
 use Rattle.std.proofs.shelf.Bests.{first-best-unique}
 use Rattle.std.proofs.shelf.Tests.{cases-bool, cond-true, cond-false}
-use Rattle.std.specs.declared.option.Option.the-variants.{Some, None}
+use Rattle.std.specs.declared.option.Option.the-variants.{Some}
 use Rattle.search.specs.Highest.{leading, highest-place, First-highest}
 
 -- the laws of a ranked kind make its order one of those that the library knows

@@ -1,5 +1,3 @@
-use Prim.Native.Nat.{_≤_}
-use lib.ListN.{length}
 use Rattle.std.specs.shelf.Bests.{FirstBest}
 use Rattle.search.proofs.highest.Given as given
 

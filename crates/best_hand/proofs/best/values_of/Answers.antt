@@ -1,8 +1,7 @@
-use mathlib.Core.Path.{_≡_, sym, ap, ap₂, _∙_}
+use mathlib.Core.Path.{sym, ap, ap₂, _∙_}
 use mathlib.Core.List.{map, [], _∷_, _++_}
-use Prim.Native.Nat.{_<_, _+_}
+use Prim.Native.Nat.{_+_}
 use native.Mathlib.Omega.{arith}
-use lib.ListN.{length, take, getD}
 use Rattle.std.proofs.shelf.Lists.{length-set, take-more-set, map-more, take-all}
 use Rattle.ranking.specs.Values.{value-of}
 use Rattle.best_hand.proofs.best.values_of.Needs as need

@@ -1,7 +1,5 @@
-use mathlib.Core.Path.{_≡_, sym, ap, subst, _∙_}
-use mathlib.Core.List.{List, [], _∷_}
-use Prim.Native.Nat.{ℕ}
-use lib.ListN.{getD}
+use mathlib.Core.Path.{_≡_, sym, ap, subst}
+use mathlib.Core.List.{[], _∷_}
 use Rattle.cards.specs.declared.card.Card.{Card}
 use Rattle.cards.specs.declared.rank.Rank.the-variants.{Two}
 use Rattle.cards.specs.declared.suit.Suit.the-variants.{Clubs}

@@ -1,4 +1,4 @@
-use mathlib.Core.Path.{_≡_, sym, ap, _∙_}
+use mathlib.Core.Path.{ap, _∙_}
 use Rattle.hand_line.specs.declared.answer.Answer.the-variants.{Best}
 use Rattle.hand_line.specs.Answers.{answer-for, answer-of}
 use Rattle.hand_line.proofs.answer.Answer.to_line.Needs as need
