@@ -1,3 +1,5 @@
 // The best hand of seven cards.
+#![tactic(auto)]
+
 pub mod best;
 pub mod choices;

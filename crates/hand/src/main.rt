@@ -1,4 +1,6 @@
 // Reads lines of seven cards and writes, for each line, the class and the five ranks of the best hand, or a dash.
+#![tactic(auto)]
+
 use anyhow::anyhow;
 use hand_line::line::Line;
 use std::env;

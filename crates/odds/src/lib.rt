@@ -1,4 +1,6 @@
 // Odds: what a wager that wins is paid, as so many chips to so many wagered.
+#![tactic(auto)]
+
 ghost use Rattle.std.specs.Prelude.{◌≤◌};
 
 mod comparing;

@@ -1,3 +1,5 @@
+#![tactic(auto)]
+
 pub mod paytable;
 pub mod printed;
 pub mod stepped;

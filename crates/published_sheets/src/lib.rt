@@ -1,4 +1,6 @@
 // The sheets that come with the table.
+#![tactic(auto)]
+
 ghost use Rattle.std.specs.Prelude.{◌≡◌, [], ◌∷◌, None};
 ghost use Rattle.paytables.specs.Sheets.{Lawful};
 ghost use Rattle.paytables.specs.Makes.{printed_sheet};

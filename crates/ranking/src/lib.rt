@@ -1,4 +1,6 @@
 // The ranking of poker hands: the value of five cards, and the order of values.
+#![tactic(auto)]
+
 pub mod class;
 pub mod five;
 mod grouping;

@@ -1,4 +1,6 @@
 // One search for the highest, for every ranked kind of thing.
+#![tactic(auto)]
+
 ghost use Rattle.std.specs.Prelude.{◌≡◌, Bool, true, false};
 ghost use Rattle.search.specs.Highest.{highest_place, FirstHighest};
 
@@ -17,8 +19,8 @@ pub trait Ranked {
 
 // The place of the first thing that none exceeds, or none for an empty list.
 pub fn highest<T: Ranked>(items: &[T]) -> Option<usize>
-    ensures place { result ≡ highest_place below items.now }
-    ensures none_exceeds { FirstHighest below items.now result }
+    ensures place { result ≡ highest_place T.below items.now }
+    ensures none_exceeds { FirstHighest T.below items.now result }
 {
     if items.is_empty() {
         return None;

@@ -1,4 +1,5 @@
 // Tests of the ranking over all hands of one deck, against the totals that are known of poker.
+#![tactic(auto)]
 
 #[cfg(test)]
 mod tests {
