@@ -17,6 +17,6 @@ returns-in-len1-up t c =
     let rest = take_rest cs 1 in
     record {
       different =
-          ap₂ (λ x y. not x && y) (c.is-among.ensures.among ∙ ap (among (get_or cs 0 no_card)) rest) (c.all-different.ensures.different ∙ ap different rest)
+          ap₂ (λ x y. not x && y) (c.is_among.ensures.among ∙ ap (among (get_or cs 0 no_card)) rest) (c.all_different.ensures.different ∙ ap different rest)
           ∙ sym (ap different (drop_more cs 0 no_card some_card));
     }
