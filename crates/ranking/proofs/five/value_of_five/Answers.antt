@@ -13,16 +13,16 @@ unfolding value_of
 returns c =
     let h = c.args.hand.now in
     let rs = ranks_of h in
-    let start = c.straight-start-start.result in
-    let ranks_are : c.rank-numbers-ranks.result ≡ rs = c.rank-numbers-ranks.ensures.ranks in
-    let told : Told (held rs) start = subst (λ l. Told (held l) start) ranks_are c.straight-start-start.ensures in
+    let start = c.straight_start-start.result in
+    let ranks_are : c.rank_numbers-ranks.result ≡ rs = c.rank_numbers-ranks.ensures.ranks in
+    let told : Told (held rs) start = subst (λ l. Told (held l) start) ranks_are c.straight_start-start.ensures in
     let groups_are : c.grouped-groups.result ≡ groups_of rs = c.grouped-groups.ensures ∙ ap groups_of ranks_are in
-    let class_is : c.class-from-class.result ≡ class_of h
-    = c.class-from-class.ensures
+    let class_is : c.class_from-class.result ≡ class_of h
+    = c.class_from-class.ensures
     ∙ same_joined c.suited.ensures (sym told.there) (sym (told.runs 10 (lit≤ tt) (lit≤ tt))) (ap (λ g. g.class) groups_are)
     ∙ joined_is_class h in
-    let ranks_read : c.read-from-ranks.result ≡ read_ranks h
-    = c.read-from-ranks.ensures ∙ ap₂ (λ low l. cond low (5 ∷ 4 ∷ 3 ∷ 2 ∷ 1 ∷ []) l) (sym (told.runs 1 (lit≤ tt) (lit≤ tt))) (ap (λ g. g.ranks) groups_are) in
+    let ranks_read : c.read_from-ranks.result ≡ read_ranks h
+    = c.read_from-ranks.ensures ∙ ap₂ (λ low l. cond low (5 ∷ 4 ∷ 3 ∷ 2 ∷ 1 ∷ []) l) (sym (told.runs 1 (lit≤ tt) (lit≤ tt))) (ap (λ g. g.ranks) groups_are) in
     record {
       value = λ i. record { class = class_is i; ranks = ranks_read i };
       best_class = subst (BestDescribed h) (sym class_is) (class_is_best h);
