@@ -8,10 +8,10 @@ loop-i-preserved c =
     let i = c.loop-i.i in
     let vs = c.loop-i.values in
     let hs = c.args.hands.now in
-    let v = c.value-of-five.result in (
+    let v = c.value_of_five.result in (
       length-set vs i v ∙ c.loop-i.invariant.0,
       take_more_set vs i v (omega arith)
-          ∙ ap₂ (λ l x. l ++ x ∷ []) c.loop-i.invariant.1 c.value-of-five.ensures.value
+          ∙ ap₂ (λ l x. l ++ x ∷ []) c.loop-i.invariant.1 c.value_of_five.ensures.value
           ∙ sym (map_more value_of hs i [] (omega arith)),
     )
 

@@ -11,14 +11,14 @@ pub returns : goal.returns
 unfolding best_hand
 returns c =
     let cards = c.args.cards.now in
-    let vs = c.values-of-values.result in
+    let vs = c.values_of-values.result in
     let d : Value = record { class = NoPair; ranks = [] } in
     let all = values_of_choices cards in
-    let values_are : vs ≡ all = c.values-of-values.ensures ∙ ap (map value_of) c.choices.ensures.in_order_of_places in
+    let values_are : vs ≡ all = c.values_of-values.ensures ∙ ap (map value_of) c.choices.ensures.in_order_of_places in
     let some_value : 0 < length vs = search rules in
-    let value_is : get_or vs c.unwrap-or-first.result d ≡ highest_value all
-    = ap (λ p. get_or vs p d) (c.unwrap-or-first.ensures ∙ ap (λ r. unwrap_or r 0) c.highest.ensures.place) ∙ highest_stands vs d some_value ∙ ap highest_value values_are in
-    let hand_is : record { value = get_or vs c.unwrap-or-first.result d } ≡ best_hand cards = λ i. record { value = value_is i } in
+    let value_is : get_or vs c.unwrap_or-first.result d ≡ highest_value all
+    = ap (λ p. get_or vs p d) (c.unwrap_or-first.ensures ∙ ap (λ r. unwrap_or r 0) c.highest.ensures.place) ∙ highest_stands vs d some_value ∙ ap highest_value values_are in
+    let hand_is : record { value = get_or vs c.unwrap_or-first.result d } ≡ best_hand cards = λ i. record { value = value_is i } in
     record {
       hand = hand_is;
       highest = subst (HighestOfChoices cards) (sym value_is) (highest_value_is_one all (subst (λ l. 0 < length l) values_are some_value), none_exceeds_highest all);
