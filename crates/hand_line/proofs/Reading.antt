@@ -13,6 +13,11 @@ abbrev pub behind : List Card → Option (List Card) → Option (List Card)
 behind cs None = None
 behind cs (Some ds) = Some (cs ++ ds)
 
+-- before anything is read, nothing stands in front
+pub behind_nothing : (rest : Option (List Card)) → rest ≡ behind [] rest
+behind_nothing None = refl
+behind_nothing (Some ds) = refl
+
 behind_both : (cs ds : List Card) (rest : Option (List Card)) → behind cs (behind ds rest) ≡ behind (cs ++ ds) rest
 behind_both cs ds None = refl
 behind_both cs ds (Some es) = ap Some (sym (append_assoc cs ds es))

@@ -4,7 +4,7 @@ use Rattle.hand_line.proofs.worked.worked_hands.Goals as goal
 
 pub returns : goal.returns
 returns c =
-    let first = c.to-line.ensures.answer in
-    let second = c.to-line-2.ensures.answer in
-    let third = c.to-line-3.ensures.answer in
+    let first = c.to_line.ensures.answer in
+    let second = c.to_line-2.ensures.answer in
+    let third = c.to_line-3.ensures.answer in
     record { rules = worked_hands; answers = λ i. first i ∷ second i ∷ third i ∷ [] }

@@ -5,7 +5,7 @@ use Rattle.hand_line.proofs.answer.Answer.to_line.Goals as goal
 
 pub returns-in-Some : goal.returns-in-Some
 unfolding answer_of
-returns-in-Some c = record { answer = ap (λ hand. Best hand.value) c.of-seven.ensures.hand ∙ ap answer_for c.in-Some.ensures.seven_different }
+returns-in-Some c = record { answer = ap (λ hand. Best hand.value) c.of_seven.ensures.hand ∙ ap answer_for c.in-Some.ensures.seven_different }
 
 pub returns-in-None : goal.returns-in-None
 unfolding answer_of

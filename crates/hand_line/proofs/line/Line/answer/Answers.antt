@@ -7,4 +7,4 @@ pub returns : goal.returns
 returns c text stands =
     let line = c.args.self.now in
     let whole : line.len - 0 ≡ line.len = omega arith in
-    c.to-line.ensures.answer ∙ ap answer_of (ap (λ n. take n line.bytes) whole ∙ stands) ∙ fifteen_tell text
+    c.to_line.ensures.answer ∙ ap answer_of (ap (λ n. take n line.bytes) whole ∙ stands) ∙ fifteen_tell text
