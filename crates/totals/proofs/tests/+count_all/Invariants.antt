@@ -2,5 +2,5 @@
 use Rattle.std.proofs.Common.{length}
 use Rattle.totals.proofs.tests.+count_all.Given as goal
 
-abbrev pub decreases-count-all : goal.decreases-count-all
-decreases-count-all l = length l.deck.now
+abbrev pub decreases-count_all : goal.decreases-count_all
+decreases-count_all l = length l.deck.now
