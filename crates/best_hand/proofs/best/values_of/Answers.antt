@@ -1,4 +1,4 @@
-use Rattle.std.proofs.Common.{◌+◌, [], ◌∷◌, ◌++◌, map, sym, ap, ◌∙◌, ap₂, arith}
+use Rattle.std.proofs.Common.{[], ◌∷◌, ◌++◌, map, sym, ap, ◌∙◌, ap₂, arith}
 use Rattle.std.proofs.lemmas.List.{length-set, take_more_set, map_more, take_all}
 use Rattle.ranking.specs.Values.{value_of}
 use Rattle.best_hand.proofs.best.values_of.Goals as goal
