@@ -16,8 +16,8 @@ use Rattle.ranking.specs.Straights.{run_from, straight}
 use Rattle.ranking.specs.Descriptions.{ranks_of, count, all_of_suit, one_suit, of_a_kind, of_two_kinds, meets, first_met, class_of}
 use Rattle.ranking.specs.Values.{read_ranks, value_of}
 use Rattle.ranking.specs.Order.{lower}
-use Rattle.ranking.specs.Arranged.{same_arrangement}
-use Rattle.ranking.specs.Lower.{lower_same}
+use Rattle.ranking.proofs.Arranged.{same_arrangement}
+use Rattle.ranking.proofs.Lower.{lower_same}
 use Rattle.best_hand.specs.Choices.{choose}
 use Rattle.best_hand.specs.Best.{highest_value, values_of_choices, best_hand}
 use Rattle.best_hand.proofs.HighestValue.{highest_value_is_one, none_exceeds_highest}

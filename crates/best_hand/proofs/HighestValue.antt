@@ -5,7 +5,7 @@ use Rattle.std.specs.List.{ContainsAt as Has, AllByRecursion as All}
 use Rattle.std.proofs.ByRecursion.{All-from_get_or}
 use Rattle.ranking.specs.declared.value.Value.{Value}
 use Rattle.ranking.specs.Order.{lower}
-use Rattle.ranking.specs.Lower.{lower_asymmetric, lower_chain}
+use Rattle.ranking.specs.LowerLaws.{lower_asymmetric, lower_chain}
 use Rattle.search.specs.Highest.{highest_place}
 use Rattle.search.proofs.Leads.{ranks_from_laws, leading_stands, highest_place_keeps}
 use Rattle.best_hand.specs.Best.{highest_value}

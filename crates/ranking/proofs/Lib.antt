@@ -1,4 +1,10 @@
+pub mod Sorting
+pub mod Arranged
+pub mod OfAKind
+pub mod Patterns
+pub mod Lower
 pub mod Hands
+pub mod BestClass
 pub mod Reading
 pub mod Digits
 pub mod Masks

@@ -7,9 +7,4 @@ pub mod Masks
 pub mod Order
 pub mod Straights
 pub mod Values
-pub mod Lower
-pub mod BestClass
-pub mod Patterns
-pub mod Sorting
-pub mod Arranged
-pub mod OfAKind
+pub mod LowerLaws

@@ -1,7 +1,7 @@
 // The value of a hand, and the order of values.
 ghost use Rattle.std.specs.Prelude.{◌≡◌, false};
 ghost use Rattle.ranking.specs.Order.{lower, lower_ranks};
-ghost use Rattle.ranking.specs.Lower.{lower_asymmetric, lower_chain};
+ghost use Rattle.ranking.specs.LowerLaws.{lower_asymmetric, lower_chain};
 
 use crate::class::Class;
 use search::Ranked;

@@ -5,7 +5,7 @@ use Rattle.cards.specs.declared.suit.Suit.TheVariants.{Clubs}
 use Rattle.ranking.specs.Counts.{AllRanks}
 use Rattle.ranking.specs.Descriptions.{ranks_of}
 use Rattle.ranking.proofs.Hands.{ranks_lawful}
-use Rattle.ranking.specs.Sorting.{five_items}
+use Rattle.ranking.proofs.Sorting.{five_items}
 use Rattle.ranking.proofs.five.rank_numbers.Goals as goal
 
 pub returns : goal.returns

@@ -4,7 +4,7 @@ use Rattle.cards.specs.declared.rank.Rank.TheVariants.{Two}
 use Rattle.cards.specs.declared.suit.Suit.TheVariants.{Clubs}
 use Rattle.ranking.specs.Descriptions.{one_suit}
 use Rattle.ranking.proofs.Hands.{suit_of_first, and_four}
-use Rattle.ranking.specs.Sorting.{five_items}
+use Rattle.ranking.proofs.Sorting.{five_items}
 use Rattle.ranking.proofs.five.suited.Goals as goal
 
 pub returns : goal.returns

@@ -4,7 +4,7 @@ use Rattle.ranking.specs.Masks.{Told}
 use Rattle.ranking.specs.Descriptions.{ranks_of, class_of}
 use Rattle.ranking.specs.Groups.{groups_of}
 use Rattle.ranking.specs.Values.{BestDescribed, WellRead, read_ranks, value_of}
-use Rattle.ranking.specs.BestClass.{class_is_best, joined_is_class, same_joined}
+use Rattle.ranking.proofs.BestClass.{class_is_best, joined_is_class, same_joined}
 use Rattle.ranking.proofs.Reading.{reads_well}
 use Rattle.ranking.proofs.five.value_of_five.Goals as goal
 

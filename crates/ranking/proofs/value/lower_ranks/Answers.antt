@@ -1,7 +1,7 @@
 use Rattle.std.proofs.Common.{◌+◌, get_or, drop, sym, ◌∙◌, ap₂, arith}
 use Rattle.std.proofs.lemmas.List.{drop_more, drop_all}
 use Rattle.ranking.specs.Order.{lower_ranks}
-use Rattle.ranking.specs.Lower.{decided_level, decided_apart}
+use Rattle.ranking.proofs.Lower.{decided_level, decided_apart}
 use Rattle.ranking.proofs.value.lower_ranks.Goals as goal
 
 pub loop-i-preserved : goal.loop-i-preserved

@@ -1,6 +1,6 @@
 use Rattle.std.proofs.Common.{◌≡◌, sym, ◌∙◌, rules}
 use Rattle.ranking.specs.Order.{lower}
-use Rattle.ranking.specs.Lower.{lower_same}
+use Rattle.ranking.proofs.Lower.{lower_same}
 use Rattle.ranking.proofs.value.ValueRanked.is_below.Goals as goal
 
 pub returns : goal.returns

@@ -10,7 +10,7 @@ use Rattle.ranking.specs.Straights.{run_from, straight}
 use Rattle.ranking.specs.Descriptions.{count, one_suit, of_a_kind, of_two_kinds, meets, first_met, class_of}
 use Rattle.ranking.specs.Groups.{group_class, joined_class}
 use Rattle.ranking.specs.Values.{BestDescribed}
-use Rattle.ranking.specs.Patterns.{pick}
+use Rattle.ranking.proofs.Patterns.{pick}
 
 -- the class that has this number
 abbrev class_numbered : ℕ → Class
