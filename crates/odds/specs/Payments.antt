@@ -37,6 +37,9 @@ lower_odds_pay_less o p h =
       less_brings_less o.numerator o.denominator p.numerator p.denominator o.denominator_from_1 p.denominator_from_1 crossed,
     )
 
+pub lower_one_way : (o p : Odds) → lower o p ≡ true → lower p o ≡ false
+lower_one_way o p h = grind (arith, nat_tests)
+
 pub lower_chain : (o p q : Odds) → lower o p ≡ false → lower p q ≡ false → lower o q ≡ false
 lower_chain o p q h k =
     let n =

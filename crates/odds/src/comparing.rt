@@ -2,8 +2,7 @@
 ghost use Rattle.std.specs.Prelude.{◌≡◌, ℕ, ◌<◌, ◌≤◌, true, false};
 ghost use Rattle.odds.specs.Fractions.{lower};
 ghost use Rattle.odds.specs.Payment.{pays};
-ghost use Rattle.odds.specs.Payments.{lower_chain};
-ghost use Rattle.std.proofs.Common.{rules, arith};
+ghost use Rattle.odds.specs.Payments.{lower_one_way, lower_chain};
 
 use crate::Odds;
 use search::Ranked;
@@ -12,7 +11,7 @@ use search::Ranked;
 impl Ranked for Odds {
     ghost below = { lower };
 
-    ghost asymmetric = { first_of (Prim.search rules, Prim.grind (arith, Self.row.coded.inj)) };
+    ghost asymmetric = { lower_one_way };
 
     ghost chain = { lower_chain };
 
