@@ -57,13 +57,7 @@ neighbours_rise before (e ∷ es) h =
     ap (λ b. b && rising_from e es) (told_test before e (h 0 (suc-le-suc zero-le))) ∙ neighbours_rise e es (λ k r. h (suc k) (suc-le-suc r))
 
 module _ (es : List (Option Odds)) (ten : length es ≡ 10) where
-  -- one turn of the walk through a list: the next entry may stand there, and the rest decides
-  pub one_entry_on : (before : Option Odds) (i : ℕ) (d : Option Odds) → i < 10 → may_follow before (slice_index_or es i d) ≡ true
-      → rising_from before (drop i es) ≡ rising es → rising_from (slice_index_or es i d) (drop (i + 1) es) ≡ rising es
-  one_entry_on before i d r h k =
-      ap (λ b. b && rising_from (slice_index_or es i d) (drop (i + 1) es)) (sym h) ∙ ap (rising_from before) (sym (drop_more es i d (omega arith))) ∙ k
-
-  -- or it may not, and the list does not rise
+  -- one turn of the walk through a list: where the next entry may not stand there, the list does not rise
   pub one_entry_worse : (before : Option Odds) (i : ℕ) (d : Option Odds) → i < 10 → may_follow before (slice_index_or es i d) ≡ false
       → rising_from before (drop i es) ≡ rising es → rising es ≡ false
   one_entry_worse before i d r h k =

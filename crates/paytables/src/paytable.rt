@@ -28,10 +28,10 @@ pub fn entry_pays(entry: Option<Odds>, wager: u32) -> u64
 
 // What a sheet pays at a class on a wager.
 pub fn paid_at<P: Paytable>(paytable: &P, class: u64, wager: u32) -> u64
-    ensures paid { result ≡ paid_at (sheet paytable.now) class wager }
-    ensures rounded_down { RoundedDownAt (sheet paytable.now class) wager result }
-    ensures better_class_pays_no_less { (better : ℕ) → class ≤ better → better ≤ 9 → result ≤ paid_at (sheet paytable.now) better wager }
-    ensures larger_wager_is_paid_no_less { (larger : ℕ) → wager ≤ larger → result ≤ paid_at (sheet paytable.now) class larger }
+    ensures paid { result ≡ paid_at (P.sheet paytable.now) class wager }
+    ensures rounded_down { RoundedDownAt (P.sheet paytable.now class) wager result }
+    ensures better_class_pays_no_less { (better : ℕ) → class ≤ better → better ≤ 9 → result ≤ paid_at (P.sheet paytable.now) better wager }
+    ensures larger_wager_is_paid_no_less { (larger : ℕ) → wager ≤ larger → result ≤ paid_at (P.sheet paytable.now) class larger }
 {
     entry_pays(paytable.entry(class), wager)
 }
