@@ -13,7 +13,7 @@ module _ (sheet : RateSheet) where
   abbrev computed : ℕ → Option Odds
   computed class = odds_of (min (sheet.halves * class) 1000) 2
 
-  pub to_nine : (class : ℕ) → class ≤ 9 → rate_sheet sheet class ≡ computed class
+  to_nine : (class : ℕ) → class ≤ 9 → rate_sheet sheet class ≡ computed class
   to_nine class h = let t : nat_le class 9 ≡ true = grind (arith, nat_tests) in ap (λ b. cond b (computed class) None) t
 
   above_nine : (class : ℕ) → 9 < class → rate_sheet sheet class ≡ None
