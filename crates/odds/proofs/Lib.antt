@@ -1,1 +1,3 @@
+pub mod Payments
+pub mod Rounding
 pub mod SameOdds

@@ -1,5 +1,4 @@
 pub mod Figures
 pub mod Fractions
+pub mod LowerLaws
 pub mod Payment
-pub mod Payments
-pub mod Rounding

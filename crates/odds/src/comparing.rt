@@ -2,7 +2,7 @@
 ghost use Rattle.std.specs.Prelude.{◌≡◌, ℕ, ◌<◌, ◌≤◌, true, false};
 ghost use Rattle.odds.specs.Fractions.{lower};
 ghost use Rattle.odds.specs.Payment.{pays};
-ghost use Rattle.odds.specs.Payments.{lower_one_way, lower_chain};
+ghost use Rattle.odds.specs.LowerLaws.{lower_one_way, lower_chain};
 
 use crate::Odds;
 use search::Ranked;

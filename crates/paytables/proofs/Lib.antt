@@ -1,1 +1,2 @@
 pub mod PaidAt
+pub mod Rising

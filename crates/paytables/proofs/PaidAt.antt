@@ -1,7 +1,7 @@
 -- What a lawful sheet pays, law by law.
 use Rattle.std.proofs.Common.{◌≡◌, ℕ, ◌≤◌, Some, None, Option, sym, refl, ap, ◌∙◌, subst, zero-le}
 use Rattle.odds.specs.declared.Odds.{Odds}
-use Rattle.odds.specs.Payments.{pays_rounded_down, larger_wager_pays_no_less, no_lower_odds_pay_no_less}
+use Rattle.odds.proofs.Payments.{pays_rounded_down, larger_wager_pays_no_less, no_lower_odds_pay_no_less}
 use Rattle.paytables.specs.Sheets.{Sheet, NoWorse, Lawful, entry_pays, paid_at, RoundedDownAt}
 
 pub no_worse_pays_no_less : (first second : Option Odds) → NoWorse first second → (wager : ℕ) → entry_pays first wager ≤ entry_pays second wager

@@ -1,4 +1,4 @@
 pub mod Lists
 pub mod Makes
+pub mod RisingLaws
 pub mod Sheets
-pub mod Rising

@@ -2,7 +2,7 @@
 ghost use Rattle.std.specs.Prelude.{◌≡◌};
 ghost use Rattle.paytables.specs.Lists.{may_follow};
 ghost use Rattle.paytables.specs.Makes.{printed_sheet, entries_of, entries_if_rising, MadeWhereLawful};
-ghost use Rattle.paytables.specs.Rising.{rising_is_lawful};
+ghost use Rattle.paytables.specs.RisingLaws.{rising_is_lawful};
 
 use super::PrintedSheet;
 use crate::paytable::Paytable;

@@ -1,6 +1,6 @@
 use Rattle.std.proofs.Common.{rules}
 use Rattle.odds.specs.Payment.{pays}
-use Rattle.odds.specs.Payments.{what_is_paid_is_rounded_down}
+use Rattle.odds.proofs.Payments.{what_is_paid_is_rounded_down}
 use Rattle.odds.proofs.Odds.pays.Goals as goal
 
 pub returns : goal.returns

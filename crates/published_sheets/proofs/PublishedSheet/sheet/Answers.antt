@@ -1,4 +1,4 @@
-use Rattle.paytables.specs.Rising.{rising_is_lawful}
+use Rattle.paytables.specs.RisingLaws.{rising_is_lawful}
 use Rattle.published_sheets.proofs.Rise.{published_is_made, published_is_listed}
 use Rattle.published_sheets.proofs.PublishedSheet.sheet.Goals as goal
 

@@ -1,5 +1,5 @@
 use Rattle.std.proofs.Common.{rules}
-use Rattle.odds.specs.Payments.{no_lower_odds_pay_no_less, lower_odds_pay_less}
+use Rattle.odds.proofs.Payments.{no_lower_odds_pay_no_less, lower_odds_pay_less}
 use Rattle.odds.proofs.comparing.OddsRanked.is_below.Goals as goal
 
 pub returns : goal.returns

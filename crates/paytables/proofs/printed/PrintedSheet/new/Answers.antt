@@ -1,7 +1,8 @@
 use Rattle.std.proofs.Common.{◌≡◌, true, false, length, sym, refl, ◌∙◌, rules}
 use Rattle.std.proofs.lemmas.Bool.{true≢false}
 use Rattle.paytables.specs.Lists.{rising}
-use Rattle.paytables.specs.Rising.{one_entry_worse, none_left, rising_is_lawful, lawful_is_rising}
+use Rattle.paytables.specs.RisingLaws.{rising_is_lawful}
+use Rattle.paytables.proofs.Rising.{one_entry_worse, none_left, lawful_is_rising}
 use Rattle.paytables.proofs.printed.PrintedSheet.new.Goals as goal
 
 pub returns-then-not-fits-clause-made_where_lawful : goal.returns-then-not-fits-clause-made_where_lawful

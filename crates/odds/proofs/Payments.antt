@@ -1,12 +1,12 @@
 -- What odds pay, law by law.
-use Rattle.std.specs.Prelude.{◌≡◌, ℕ, ◌*◌, ◌<◌, ◌≤◌, true, false}
-use Rattle.std.proofs.Common.{sym, subst, mul-le-mul_right, div-mul-le_self, arith}
+use Rattle.std.proofs.Common.{◌≡◌, ℕ, ◌*◌, ◌<◌, ◌≤◌, true, false, sym, subst, mul-le-mul_right, div-mul-le_self, arith}
 use Rattle.std.proofs.Math.Nat.{lt-div-mul-add}
 use Rattle.std.proofs.lemmas.Bool.Decides.{nat_tests}
 use Rattle.odds.specs.declared.Odds.{Odds}
 use Rattle.odds.specs.Payment.{pays, RoundedDown}
 use Rattle.odds.specs.Fractions.{lower}
-use Rattle.odds.specs.Rounding.{NoLess, more_brings, no_less_brings, no_less_chain, less_brings_less}
+use Rattle.odds.specs.LowerLaws.{not_lower}
+use Rattle.odds.proofs.Rounding.{more_brings, no_less_brings, less_brings_less}
 
 pub pays_rounded_down : (odds : Odds) (wager : ℕ) → RoundedDown odds wager (pays odds wager)
 unfolding pays
@@ -18,10 +18,6 @@ what_is_paid_is_rounded_down odds wager e = subst (RoundedDown odds wager) (sym 
 pub larger_wager_pays_no_less : (odds : Odds) (v w : ℕ) → v ≤ w → pays odds v ≤ pays odds w
 unfolding pays
 larger_wager_pays_no_less odds v w h = more_brings _ _ _ odds.denominator_from_1 (mul-le-mul_right odds.numerator h)
-
--- odds that are not lower are no less as a fraction
-pub not_lower : (o p : Odds) → lower o p ≡ false → NoLess o.numerator o.denominator p.numerator p.denominator
-not_lower o p h = grind (arith, nat_tests)
 
 pub no_lower_odds_pay_no_less : (o p : Odds) → lower o p ≡ false → (wager : ℕ) → pays p wager ≤ pays o wager
 unfolding pays
@@ -36,13 +32,3 @@ lower_odds_pay_less o p h =
       o.denominator * p.denominator,
       less_brings_less o.numerator o.denominator p.numerator p.denominator o.denominator_from_1 p.denominator_from_1 crossed,
     )
-
-pub lower_one_way : (o p : Odds) → lower o p ≡ true → lower p o ≡ false
-lower_one_way o p h = grind (arith, nat_tests)
-
-pub lower_chain : (o p q : Odds) → lower o p ≡ false → lower p q ≡ false → lower o q ≡ false
-lower_chain o p q h k =
-    let n =
-    no_less_chain o.numerator o.denominator p.numerator p.denominator q.numerator q.denominator
-    p.denominator_from_1 (not_lower o p h) (not_lower p q k) in
-    grind (arith, nat_tests)

@@ -1,18 +1,7 @@
 -- Rounding down, and the order of fractions, over plain numbers.
-use Rattle.std.specs.Prelude.{◌≡◌, ℕ, ◌*◌, ◌/◌, ◌<◌, ◌≤◌}
-use Rattle.std.proofs.Common.{le_trans, le_of_eq, mul_comm, mul_assoc, mul_right_comm, mul-le-mul_left, mul-le-mul_right, le_of_mul-le-mul_right, div-mul-le_self, le-div_iff_mul-le, sym, ap, ◌∙◌, arith}
+use Rattle.std.proofs.Common.{◌≡◌, ℕ, ◌*◌, ◌/◌, ◌<◌, ◌≤◌, le_trans, le_of_eq, mul_comm, mul_assoc, mul_right_comm, mul-le-mul_left, mul-le-mul_right, le_of_mul-le-mul_right, div-mul-le_self, le-div_iff_mul-le, sym, ap, ◌∙◌, arith}
 use Rattle.std.proofs.Math.Nat.{mul-div_right}
-
--- a/b is no less than c/d, crosswise
-abbrev pub NoLess : (a b c d : ℕ) → Type 0
-NoLess a b c d = c * b ≤ a * d
-
--- the middle fraction falls out
-pub no_less_chain : (a b c d e f : ℕ) → 1 ≤ d → NoLess a b c d → NoLess c d e f → NoLess a b e f
-no_less_chain a b c d e f d_pos h k =
-    let down : e * b * d ≤ c * f * b = le_trans (le_of_eq (mul_right_comm e b d)) (mul-le-mul_right b k) in
-    let up : c * f * b ≤ a * d * f = le_trans (le_of_eq (mul_right_comm c f b)) (mul-le-mul_right f h) in
-    le_of_mul-le-mul_right (le_trans down (le_trans up (le_of_eq (mul_right_comm a d f)))) d_pos
+use Rattle.odds.specs.LowerLaws.{NoLess}
 
 -- more of a number that is divided brings no less
 pub more_brings : (m n d : ℕ) → 1 ≤ d → m ≤ n → m / d ≤ n / d

@@ -1,0 +1,32 @@
+-- The order of odds is total: it goes one way, and an order that is not broken step by step is not broken at all. The law that odds owe to the
+-- search rests on it.
+use Rattle.std.specs.Prelude.{◌≡◌, ℕ, ◌*◌, ◌≤◌, true, false}
+use Rattle.std.proofs.Common.{le_trans, le_of_eq, mul_right_comm, mul-le-mul_right, le_of_mul-le-mul_right, arith}
+use Rattle.std.proofs.lemmas.Bool.Decides.{nat_tests}
+use Rattle.odds.specs.declared.Odds.{Odds}
+use Rattle.odds.specs.Fractions.{lower}
+
+-- a/b is no less than c/d, crosswise
+abbrev pub NoLess : (a b c d : ℕ) → Type 0
+NoLess a b c d = c * b ≤ a * d
+
+-- the middle fraction falls out
+pub no_less_chain : (a b c d e f : ℕ) → 1 ≤ d → NoLess a b c d → NoLess c d e f → NoLess a b e f
+no_less_chain a b c d e f d_pos h k =
+    let down : e * b * d ≤ c * f * b = le_trans (le_of_eq (mul_right_comm e b d)) (mul-le-mul_right b k) in
+    let up : c * f * b ≤ a * d * f = le_trans (le_of_eq (mul_right_comm c f b)) (mul-le-mul_right f h) in
+    le_of_mul-le-mul_right (le_trans down (le_trans up (le_of_eq (mul_right_comm a d f)))) d_pos
+
+-- odds that are not lower are no less as a fraction
+pub not_lower : (o p : Odds) → lower o p ≡ false → NoLess o.numerator o.denominator p.numerator p.denominator
+not_lower o p h = grind (arith, nat_tests)
+
+pub lower_one_way : (o p : Odds) → lower o p ≡ true → lower p o ≡ false
+lower_one_way o p h = grind (arith, nat_tests)
+
+pub lower_chain : (o p q : Odds) → lower o p ≡ false → lower p q ≡ false → lower o q ≡ false
+lower_chain o p q h k =
+    let n =
+    no_less_chain o.numerator o.denominator p.numerator p.denominator q.numerator q.denominator
+    p.denominator_from_1 (not_lower o p h) (not_lower p q k) in
+    grind (arith, nat_tests)
