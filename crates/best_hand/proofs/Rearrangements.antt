@@ -66,7 +66,7 @@ module _ {X : Type 0} (P : X → Type 0) where
   all_parts [] ys all = (tt, all)
   all_parts (x ∷ xs) ys all = let rest = all_parts xs ys all.1 in ((all.0, rest.0), rest.1)
 
-  -- the shelf's `All-map`, the other way
+  -- the library's `All-map`, the other way
   pub all_unmap : {Y : Type 0} (f : Y → X) (ys : List Y) → All P (map f ys) → All (λ y. P (f y)) ys
   all_unmap f [] all = tt
   all_unmap f (y ∷ ys) all = (all.0, all_unmap f ys all.1)

@@ -1,5 +1,5 @@
 -- What each class describes. A hand may meet several descriptions; its class is the best of them.
-use Rattle.std.specs.Prelude.{ℕ, Bool, true, cond, not, ◌&&◌, leb, List, [], ◌∷◌, map, ◌==◌, nat_le}
+use Rattle.std.specs.Prelude.{ℕ, Bool, true, cond, not, ◌&&◌, List, [], ◌∷◌, map, ◌==◌, nat_le}
 use Rattle.cards.specs.declared.card.Card.{Card}
 use Rattle.cards.specs.Ranks.{rank_number}
 use Rattle.cards.specs.Suits.{suit_number, suits}
@@ -25,7 +25,7 @@ one_suit h = some_of (λ s. all_of_suit s h) (map suit_number suits)
 
 -- n cards of the same rank
 abbrev pub of_a_kind : ℕ → (ℕ → ℕ) → Bool
-of_a_kind n f = some_rank (λ r. leb n (f r))
+of_a_kind n f = some_rank (λ r. nat_le n (f r))
 
 -- m cards of one rank and n cards of another
 abbrev pub of_two_kinds : ℕ → ℕ → (ℕ → ℕ) → Bool
