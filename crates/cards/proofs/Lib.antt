@@ -1,3 +1,2 @@
 pub mod CodeBack
 pub mod Different
-pub mod Front

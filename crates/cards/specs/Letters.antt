@@ -35,8 +35,8 @@ abbrev pub card_letters : Card → List ℕ
 card_letters c = rank_letter c.rank ∷ suit_letter c.suit ∷ []
 
 -- the card found has these letters; where none is found, no card has them
-abbrev pub WrittenSo : ℕ → ℕ → Result Card TextFault → Type 0
-WrittenSo r s found = MatchResult found (λ c. card_letters c ≡ r ∷ s ∷ []) (λ _. (c : Card) → card_letters c ≢ r ∷ s ∷ [])
+abbrev pub WrittenSo : List ℕ → Result Card TextFault → Type 0
+WrittenSo letters found = MatchResult found (λ c. card_letters c ≡ letters) (λ _. (c : Card) → card_letters c ≢ letters)
 
 -- the card in the first two letters of a line
 abbrev pub card_in_front : List ℕ → Result Card TextFault

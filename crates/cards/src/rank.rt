@@ -5,7 +5,8 @@ ghost use Rattle.cards.specs.Letters.{rank_lettered};
 
 use crate::fault::TextFault;
 
-#[derive(Clone, Copy)]
+// Ordered from the lowest to the highest, which is the ace.
+#[derive(Clone, Copy, Debug, PartialEq, Eq, PartialOrd, Ord, Hash)]
 pub enum Rank {
     Two = 2,
     Three,
@@ -39,18 +40,23 @@ impl Rank {
         Rank::King,
         Rank::Ace,
     ];
+}
 
-    // 2 to 14; the ace is the highest.
-    pub fn number(self) -> u8
-        ensures number { result ≡ rank_number self }
-    {
-        self as u8
+// A rank's number: 2 to 14; the ace is the highest.
+impl From<Rank> for u8 {
+    ghost from_gives = { λ rank number. number ≡ rank_number rank };
+
+    fn from(rank: Rank) -> u8 {
+        rank as u8
     }
+}
 
-    pub fn letter(self) -> char
-        ensures letter { result ≡ rank_letter self }
-    {
-        match self {
+// The letter that stands for a rank.
+impl From<Rank> for char {
+    ghost from_gives = { λ rank letter. letter ≡ rank_letter rank };
+
+    fn from(rank: Rank) -> char {
+        match rank {
             Rank::Two => '2',
             Rank::Three => '3',
             Rank::Four => '4',
@@ -66,9 +72,15 @@ impl Rank {
             Rank::Ace => 'A',
         }
     }
+}
 
-    // The rank that a letter stands for. Only these letters: a small `t` is none.
-    pub fn from_letter(letter: char) -> Result<Rank, TextFault>
+// The rank that a letter stands for. Only these letters: a small `t` is none.
+impl TryFrom<char> for Rank {
+    type Error = TextFault;
+
+    ghost try_from_gives = { λ letter rank. rank ≡ rank_lettered letter };
+
+    fn try_from(letter: char) -> Result<Rank, TextFault>
         ensures rank { result ≡ rank_lettered letter }
         ensures same_letter { MatchResult result (λ k. rank_letter k ≡ letter) (λ _. (k : Rank) → rank_letter k ≢ letter) }
     {

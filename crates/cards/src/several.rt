@@ -7,12 +7,7 @@ use crate::card::Card;
 pub fn is_among(card: Card, others: &[Card]) -> bool
     ensures among { result ≡ among card others.now }
 {
-    for other in others {
-        if card.code() == other.code() {
-            return true;
-        }
-    }
-    false
+    others.contains(&card)
 }
 
 pub fn all_different(cards: &[Card]) -> bool
@@ -20,6 +15,6 @@ pub fn all_different(cards: &[Card]) -> bool
 {
     match cards {
         [] => true,
-        [first, rest @ ..] => !is_among(*first, rest) & all_different(rest),
+        [first, rest @ ..] => !is_among(*first, rest) && all_different(rest),
     }
 }

@@ -5,7 +5,8 @@ ghost use Rattle.cards.specs.Letters.{suit_lettered};
 
 use crate::fault::TextFault;
 
-#[derive(Clone, Copy)]
+// No suit is higher than another, so suits have no order.
+#[derive(Clone, Copy, Debug, PartialEq, Eq, Hash)]
 pub enum Suit {
     Clubs,
     Diamonds,
@@ -15,27 +16,38 @@ pub enum Suit {
 
 impl Suit {
     pub const ALL: [Suit; 4] = [Suit::Clubs, Suit::Diamonds, Suit::Hearts, Suit::Spades];
+}
 
-    // 0 to 3, for a card's code; no suit is higher than another.
-    pub fn number(self) -> u8
-        ensures number { result ≡ suit_number self }
-    {
-        self as u8
+// A suit's number, 0 to 3, which only serves a card's code.
+impl From<Suit> for u8 {
+    ghost from_gives = { λ suit number. number ≡ suit_number suit };
+
+    fn from(suit: Suit) -> u8 {
+        suit as u8
     }
+}
 
-    pub fn letter(self) -> char
-        ensures letter { result ≡ suit_letter self }
-    {
-        match self {
+// The letter that stands for a suit.
+impl From<Suit> for char {
+    ghost from_gives = { λ suit letter. letter ≡ suit_letter suit };
+
+    fn from(suit: Suit) -> char {
+        match suit {
             Suit::Clubs => 'c',
             Suit::Diamonds => 'd',
             Suit::Hearts => 'h',
             Suit::Spades => 's',
         }
     }
+}
 
-    // The suit that a letter stands for. Only these letters: a capital `C` is none.
-    pub fn from_letter(letter: char) -> Result<Suit, TextFault>
+// The suit that a letter stands for. Only these letters: a capital `C` is none.
+impl TryFrom<char> for Suit {
+    type Error = TextFault;
+
+    ghost try_from_gives = { λ letter suit. suit ≡ suit_lettered letter };
+
+    fn try_from(letter: char) -> Result<Suit, TextFault>
         ensures suit { result ≡ suit_lettered letter }
         ensures same_letter { MatchResult result (λ k. suit_letter k ≡ letter) (λ _. (k : Suit) → suit_letter k ≢ letter) }
     {
