@@ -22,15 +22,12 @@ pub fn highest<T: Ranked>(items: &[T]) -> Option<usize>
     ensures place { result ≡ highest_place T.below items.now }
     ensures none_exceeds { FirstHighest T.below items.now result }
 {
-    if items.is_empty() {
-        return None;
-    }
     let mut best = 0;
-    for i in 1..items.len() {
-        let exceeded = items[best].is_below(&items[i]);
+    for (i, item) in items.iter().enumerate() {
+        let exceeded = items[best].is_below(item);
         if exceeded {
             best = i;
         }
     }
-    Some(best)
+    (!items.is_empty()).then_some(best)
 }
