@@ -1,6 +1,6 @@
 -- The class of a hand is the best that it meets, and the tests of the code find it.
-use Rattle.std.specs.Prelude.{◌≡◌, ℕ, suc, ◌<◌, ◌≤◌, Bool, true, false, cond, ◌&&◌, List, [], ◌∷◌, nat_le, slice_index_or, refl}
-use Rattle.std.proofs.Common.{sym, ap, subst, ◌∙◌, ⊎_elim, arith, lit≤}
+use Rattle.std.specs.Prelude.{◌≡◌, ℕ, suc, ◌<◌, ◌≤◌, Bool, true, false, cond, ◌&&◌, List, [], ◌∷◌, nat_le, refl}
+use Rattle.std.proofs.Common.{sym, ap, subst, ◌∙◌, ⊎_elim, arith, lit≤, rules}
 use Rattle.std.proofs.lemmas.Bool.{cases_Bool, cases_eq, cond-true, cond-false}
 use Rattle.cards.specs.declared.card.Card.{Card}
 use Rattle.ranking.specs.declared.class.Class.{Class}
@@ -12,36 +12,11 @@ use Rattle.ranking.specs.Groups.{group_class, joined_class}
 use Rattle.ranking.specs.Values.{BestDescribed}
 use Rattle.ranking.proofs.Patterns.{pick}
 
--- the class that has this number
-abbrev class_numbered : ℕ → Class
-class_numbered n = slice_index_or (NoPair ∷ OnePair ∷ TwoPairs ∷ ThreeOfAKind ∷ Straight ∷ Flush ∷ FullHouse ∷ FourOfAKind ∷ StraightFlush ∷ RoyalFlush ∷ []) n NoPair
-
-numbered_back : (c : Class) → class_numbered (class_number c) ≡ c
-numbered_back NoPair = refl
-numbered_back OnePair = refl
-numbered_back TwoPairs = refl
-numbered_back ThreeOfAKind = refl
-numbered_back Straight = refl
-numbered_back Flush = refl
-numbered_back FullHouse = refl
-numbered_back FourOfAKind = refl
-numbered_back StraightFlush = refl
-numbered_back RoyalFlush = refl
-
 pub same_number : (c d : Class) → class_number c ≡ class_number d → c ≡ d
-same_number c d e = sym (numbered_back c) ∙ ap class_numbered e ∙ numbered_back d
+same_number c d e = search rules
 
 highest_number : (c : Class) → class_number c ≤ 9
-highest_number NoPair = lit≤ tt
-highest_number OnePair = lit≤ tt
-highest_number TwoPairs = lit≤ tt
-highest_number ThreeOfAKind = lit≤ tt
-highest_number Straight = lit≤ tt
-highest_number Flush = lit≤ tt
-highest_number FullHouse = lit≤ tt
-highest_number FourOfAKind = lit≤ tt
-highest_number StraightFlush = lit≤ tt
-highest_number RoyalFlush = lit≤ tt
+highest_number c = search rules
 
 module _ (h : List Card) where
   -- c is met, its number is at most n, and no better class up to n is met

@@ -1,41 +1,39 @@
 -- The order of values is total: an order that is not broken step by step is not broken at all. The law that values owe to the search rests on it.
-use Rattle.std.specs.Prelude.{◌≡◌, ℕ, Bool, true, false, ◌&&◌, ◌||◌, List, [], ◌∷◌, ◌==◌, nat_lt, refl}
-use Rattle.std.proofs.Common.{sym, arith}
+use Rattle.std.specs.Prelude.{◌≡◌, ℕ, true, false, List, ◌∷◌, refl}
+use Rattle.std.specs.Cmp.Lexicographic.{slice_cmp}
+use Rattle.std.specs.Ordering.{nat_cmp, is_lt, is_gt, ordering_reverse}
+use Rattle.std.specs.declared.cmp.Ordering.{Ordering}
+use Rattle.std.proofs.Common.{sym, ap, ◌∙◌, arith, rules}
 use Rattle.std.proofs.lemmas.Bool.Decides.{nat_tests}
-use Rattle.std.proofs.lemmas.Bool.{true≢false}
+use Rattle.std.proofs.lemmas.Cmp.{same_from_slice_cmp, nat_list_cmp_total, upto}
 use Rattle.ranking.specs.declared.value.Value.{Value}
 use Rattle.ranking.specs.Classes.{class_number}
 use Rattle.ranking.specs.Order.{lower, lower_ranks}
 
--- one number decides, and where it is equal the rest does
-abbrev pub decided : ℕ → ℕ → Bool → Bool
-decided m n rest = nat_lt m n || (m == n && rest)
+-- the class and the ranks as one list of numbers, which the order reads from the left
+abbrev pub numbers : Value → List ℕ
+numbers v = class_number v.class ∷ v.ranks
 
-pub decided_asymmetric : (m n : ℕ) (p q : Bool) → (p ≡ true → q ≡ false) → decided m n p ≡ true → decided n m q ≡ false
-decided_asymmetric m n p q rest h = grind (arith, nat_tests)
+abbrev compared : Value → Value → Ordering
+compared v w = slice_cmp nat_cmp (numbers v) (numbers w)
 
-pub decided_chain : (l m n : ℕ) (p q r : Bool) → (p ≡ false → q ≡ false → r ≡ false) → decided l m p ≡ false → decided m n q ≡ false → decided l n r ≡ false
-decided_chain l m n p q r rest h k = grind (arith, nat_tests)
+less_is_lower : (v w : Value) → is_lt (compared v w) ≡ lower v w
+less_is_lower v w =
+    same_from_slice_cmp nat_cmp is_lt lower_ranks refl (λ _ _. refl) (λ _ _. refl) (λ x y xs ys o h. grind (arith, nat_tests)) (numbers v) (numbers w)
+    (compared v w) refl
 
-pub ranks_asymmetric : (rs ss : List ℕ) → lower_ranks rs ss ≡ true → lower_ranks ss rs ≡ false
-ranks_asymmetric [] [] h = refl
-ranks_asymmetric [] (s ∷ ss) h = refl
-ranks_asymmetric (r ∷ rs) [] h = absurd (true≢false (sym h))
-ranks_asymmetric (r ∷ rs) (s ∷ ss) h = decided_asymmetric r s (lower_ranks rs ss) (lower_ranks ss rs) (ranks_asymmetric rs ss) h
+lt_reversed : (o : Ordering) → is_lt (ordering_reverse o) ≡ is_gt o
+lt_reversed o = search rules
 
-pub ranks_chain : (rs ss ts : List ℕ) → lower_ranks rs ss ≡ false → lower_ranks ss ts ≡ false → lower_ranks rs ts ≡ false
-ranks_chain [] [] ts h k = k
-ranks_chain [] (s ∷ ss) ts h k = absurd (true≢false h)
-ranks_chain (r ∷ rs) ss [] h k = refl
-ranks_chain (r ∷ rs) [] (t ∷ ts) h k = absurd (true≢false k)
-ranks_chain (r ∷ rs) (s ∷ ss) (t ∷ ts) h k = decided_chain r s t (lower_ranks rs ss) (lower_ranks ss ts) (lower_ranks rs ts) (ranks_chain rs ss ts) h k
+not_both : (o : Ordering) → is_lt o ≡ true → is_gt o ≡ false
+not_both o h = search rules
+
+greater_is_higher : (v w : Value) → is_gt (compared v w) ≡ lower w v
+greater_is_higher v w = sym (lt_reversed (compared v w)) ∙ ap is_lt (sym (nat_list_cmp_total.antisymm (numbers w) (numbers v))) ∙ less_is_lower w v
 
 pub lower_asymmetric : (v w : Value) → lower v w ≡ true → lower w v ≡ false
-lower_asymmetric v w =
-    decided_asymmetric (class_number v.class) (class_number w.class) (lower_ranks v.ranks w.ranks) (lower_ranks w.ranks v.ranks)
-    (ranks_asymmetric v.ranks w.ranks)
+lower_asymmetric v w h = sym (greater_is_higher v w) ∙ not_both (compared v w) (less_is_lower v w ∙ h)
 
 pub lower_chain : (u v w : Value) → lower u v ≡ false → lower v w ≡ false → lower u w ≡ false
-lower_chain u v w =
-    decided_chain (class_number u.class) (class_number v.class) (class_number w.class) (lower_ranks u.ranks v.ranks)
-    (lower_ranks v.ranks w.ranks) (lower_ranks u.ranks w.ranks) (ranks_chain u.ranks v.ranks w.ranks)
+lower_chain u v w h k =
+    sym (greater_is_higher w u) ∙ upto nat_list_cmp_total (numbers w) (numbers v) (numbers u) (greater_is_higher w v ∙ k) (greater_is_higher v u ∙ h)

@@ -3,7 +3,7 @@ ghost use Rattle.std.specs.Prelude.{◌≡◌};
 ghost use Rattle.ranking.specs.Classes.{class_number};
 
 // From the lowest to the best.
-#[derive(Clone, Copy)]
+#[derive(Clone, Copy, Debug, PartialEq, Eq, PartialOrd, Ord, Hash)]
 pub enum Class {
     NoPair,
     OnePair,
@@ -17,11 +17,13 @@ pub enum Class {
     RoyalFlush,
 }
 
-impl Class {
-    // 0 to 9; the higher, the better.
-    pub fn number(self) -> u8
-        ensures number { result ≡ class_number self }
+// 0 to 9; the higher, the better.
+impl From<Class> for u8 {
+    ghost from_gives = { λ class n. n ≡ class_number class };
+
+    fn from(class: Class) -> u8
+        ensures number { result ≡ class_number class }
     {
-        self as u8
+        class as u8
     }
 }

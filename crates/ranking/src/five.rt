@@ -43,7 +43,7 @@ fn class_from(suited: bool, start: Option<u8>, groups: Class) -> Class
     match (suited, start) {
         (true, Some(10)) => Class::RoyalFlush,
         (true, Some(_)) => Class::StraightFlush,
-        (_, _) if groups.number() >= Class::FullHouse.number() => groups,
+        (_, _) if groups >= Class::FullHouse => groups,
         (true, None) => Class::Flush,
         (false, Some(_)) => Class::Straight,
         (false, None) => groups,

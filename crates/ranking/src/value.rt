@@ -7,7 +7,7 @@ use crate::class::Class;
 use search::Ranked;
 
 // A hand's class and its five ranks, in the order in which they are read.
-#[derive(Clone, Copy)]
+#[derive(Clone, Copy, Debug, PartialEq, Eq, PartialOrd, Ord, Hash)]
 pub struct Value {
     pub class: Class,
     pub ranks: [u8; 5],
@@ -25,22 +25,6 @@ impl Ranked for Value {
         ensures exceeded { result ≡ lower self.now other.now }
         ensures level_is_same { result ≡ false → lower other.now self.now ≡ false → self.now ≡ other.now }
     {
-        let class = self.class.number();
-        let other_class = other.class.number();
-        if class != other_class {
-            return class < other_class;
-        }
-        lower_ranks(&self.ranks, &other.ranks)
+        self < other
     }
-}
-
-fn lower_ranks(ranks: &[u8; 5], others: &[u8; 5]) -> bool
-    ensures { result ≡ lower_ranks ranks.now others.now }
-{
-    for i in 0..5 {
-        if ranks[i] != others[i] {
-            return ranks[i] < others[i];
-        }
-    }
-    false
 }
