@@ -1,8 +1,11 @@
 -- The ranks and the suit of the cards of a hand.
-use Rattle.std.proofs.Common.{◌≡◌, zero, suc, ◌≤◌, Bool, true, false, ◌&&◌, ◌||◌, eqb, List, [], ◌∷◌, le_of_suc-le-suc, arith, rules}
+use Rattle.std.proofs.Common.{◌≡◌, zero, suc, ◌≤◌, Bool, false, ◌&&◌, ◌||◌, eqb, List, [], ◌∷◌, ◌<◌, length, get_or, refl, ap₂, le_of_suc-le-suc, arith, rules}
 use Rattle.cards.specs.declared.card.Card.{Card}
 use Rattle.cards.specs.declared.rank.Rank.{Rank}
 use Rattle.cards.specs.declared.suit.Suit.{Suit}
+use Rattle.cards.specs.declared.rank.Rank.TheVariants.{Two}
+use Rattle.cards.specs.contracts.suit.SuitPartialEq.TheImpl as suits
+use Rattle.std.specs.List.{list_all}
 use Rattle.cards.specs.Ranks.{rank_number}
 use Rattle.cards.specs.Suits.{suit_number}
 use Rattle.ranking.specs.Counts.{some_of, AllRanks}
@@ -16,15 +19,20 @@ ranks_lawful [] k h = absurd (omega arith)
 ranks_lawful (c ∷ h) zero k = rank_in_range c.rank
 ranks_lawful (c ∷ h) (suc n) k = ranks_lawful h n (le_of_suc-le-suc k)
 
+same_suit : (s t : Suit) → suits.ghosts.eq s t ≡ eqb (suit_number s) (suit_number t)
+same_suit s t = search rules
+
+pub all_same_suit : (s : Suit) (h : List Card) → list_all (λ c. suits.ghosts.eq c.suit s) h ≡ all_of_suit (suit_number s) h
+all_same_suit s [] = refl
+all_same_suit s (c ∷ h) = ap₂ ◌&&◌ (same_suit c.suit s) (all_same_suit s h)
+
 or_false : (x : Bool) → (x || false) ≡ x
 or_false x = search rules
 
-with_suit : (s : Suit) (h : List Card) → some_of (λ k. eqb (suit_number s) k && all_of_suit k h) (0 ∷ 1 ∷ 2 ∷ 3 ∷ []) ≡ all_of_suit (suit_number s) h
+with_suit : (s : Suit) (h : List Card) → some_of (λ k. eqb (suit_number s) k && all_of_suit k h) (0 ∷ 1 ∷ 2 ∷ 3 ∷ []) ≡ all_of_suit (suit_number s) (record { rank = Two; suit = s } ∷ h)
 with_suit s h = search (rules, or_false)
 
--- a hand is of one suit where the others have the suit of the first
-pub suit_of_first : (c : Card) (h : List Card) → one_suit (c ∷ h) ≡ all_of_suit (suit_number c.suit) h
-suit_of_first c h = with_suit c.suit h
-
-pub and_four : (x y z w : Bool) → (((x && y) && z) && w) ≡ (x && (y && (z && (w && true))))
-and_four x y z w = search rules
+-- a hand is of one suit where all have the suit of the first
+pub suit_of_first : (h : List Card) (d : Card) → 0 < length h → one_suit h ≡ all_of_suit (suit_number (get_or h 0 d).suit) h
+suit_of_first [] d h = absurd (omega arith)
+suit_of_first (c ∷ h) d _ = with_suit c.suit h

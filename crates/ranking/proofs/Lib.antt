@@ -9,3 +9,4 @@ pub mod Reading
 pub mod Digits
 pub mod Masks
 pub mod Straights
+pub mod Mapped

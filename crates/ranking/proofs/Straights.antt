@@ -1,13 +1,16 @@
 -- Straights by the mask of a hand's ranks: the ranks run from l where the mask is five digits in a row from l.
-use Rattle.std.proofs.Common.{◌≡◌, ℕ, zero, suc, ◌+◌, ◌*◌, ◌/◌, ◌%◌, ◌^◌, ◌<◌, ◌≤◌, min, Bool, true, cond, eqb, List, length, is_some, Some, None, Option, sym, refl, ap, ◌∙◌, inl, inr, arith, lit≤, pow_mono}
-use lib.Count.{ones, ones_cat}
+use Rattle.std.proofs.Common.{◌≡◌, ℕ, zero, suc, ◌+◌, ◌*◌, ◌/◌, ◌%◌, ◌^◌, ◌<◌, ◌≤◌, min, Bool, true, false, cond, eqb, List, length, is_some, Some, None, Option, sym, refl, ap, ◌∙◌, inl, inr, arith, lit≤, pow_mono}
+use lib.Count.{ones, ones_cat, count_leading_zeros, count_trailing_zeros}
+use Rattle.std.specs.Prelude.{MatchOption, ◌≢◌}
+use Rattle.std.specs.Bool.{Decides, then_some}
+use Rattle.std.specs.Option.{option_or, option_and}
 use Rattle.std.proofs.lemmas.Bool.{eq-eqb, ne_eqb, cases_lt}
 use Rattle.std.proofs.lemmas.Bool.Decides.{nat_tests, eqb_tells, same_from_decides, Decides-eqb}
 use Rattle.ranking.specs.Counts.{held, some_of, AllRanks}
 use Rattle.ranking.specs.Masks.{masked}
 use Rattle.ranking.specs.Straights.{has_rank, run_from, straight_starts}
 use Rattle.ranking.specs.Masks.{starts_at, Told}
-use Rattle.ranking.proofs.Digits.{digit, digit_at, digit_below, digit_of_zero, ones_zero, ones_shifted, run_digit, run_place, only_run}
+use Rattle.ranking.proofs.Digits.{digit, digit_at, digit_below, digit_of_zero, ones_zero, ones_shifted, run_digit, run_place, only_run, run_ones, run_from_zeros, run_leading, run_trailing}
 use Rattle.ranking.proofs.Masks.{digit_masked, ones_masked, masked_lt, held_low}
 
 -- each of the five ranks of a run is held
@@ -35,6 +38,17 @@ run_is f m l few shows = same_from_decides (run_from f l) (eqb m (31 * 2 ^ l)) (
           has e (l + 3) (omega arith) (omega arith),
           has e (l + 4) (omega arith) (omega arith),
         )
+
+-- what is told of a mask: where it is a run, the place of its lowest digit
+abbrev pub RunStart : ℕ → Option ℕ → Type 0
+RunStart m start = MatchOption start ((l : ℕ) → l ≤ 27 → m ≢ 31 * 2 ^ l) (λ l. m ≡ 31 * 2 ^ l)
+
+-- A mask of 32 digits is a run where it has five ones and 27 zeros at the ends.
+pub run_start_is : (m : ℕ) (b : Bool) → m < 2 ^ 32 → Decides b ((ones m ≡ 5) × (count_leading_zeros 32 m + count_trailing_zeros 32 m ≡ 27))
+    → RunStart m (then_some b (count_trailing_zeros 32 m))
+run_start_is m true small tests = run_from_zeros 32 m small (tests.0 refl).0 (omega (arith, (tests.0 refl).1))
+run_start_is m false small tests = λ l h e.
+    grind (arith, nat_tests, tests.1, run_ones l, run_leading l h, run_trailing 32 l (omega arith), ap ones e, ap (count_leading_zeros 32) e, ap (count_trailing_zeros 32) e)
 
 -- ---- the ace below the two
 
@@ -115,7 +129,7 @@ module _ (rs : List ℕ) (ranks : AllRanks rs) (five : length rs ≡ 5) {m : ℕ
           sym (ap (digit j) rest ∙ digit_below 12 j (m / 16384) (ace_low m / 2 / 2) (omega arith)) ∙ grind (arith, nat_tests, shown (suc (suc j)))
 
   -- a run of the mask starts at two to ten
-  pub start_bounds : (l : ℕ) → m ≡ 31 * 2 ^ l → (2 ≤ l) × (l ≤ 10)
+  start_bounds : (l : ℕ) → m ≡ 31 * 2 ^ l → (2 ≤ l) × (l ≤ 10)
   start_bounds l e =
       let top : l ≤ 10 = elim (cases_lt 10 l) [ inl h ↦ omega (arith, small, pow_mono {i = 11} h) | inr h ↦ h ] in
       (above_one l e, top)
@@ -136,14 +150,14 @@ module _ (rs : List ℕ) (ranks : AllRanks rs) (five : length rs ≡ 5) {m : ℕ
       runs (suc (suc k)) lo hi = high_run (suc (suc k)) (omega arith) ∙ high (suc (suc k)) (omega arith) hi
 
   -- a run with the ace high
-  pub told_high : (l : ℕ) → m ≡ 31 * 2 ^ l → Told (held rs) (Some l)
+  told_high : (l : ℕ) → m ≡ 31 * 2 ^ l → Told (held rs) (Some l)
   told_high l e =
       let bounds = start_bounds l e in
       told (Some l) (grind (arith, nat_tests)) (grind (arith, nat_tests, free, small))
       (λ k lo hi. grind (arith, nat_tests, run_place l k, ap (λ (x : ℕ). 31 * 2 ^ x)))
 
   -- no run with the ace high, and one with it low: from the ace, since any other would be a run with the ace high too
-  pub told_low : ((k : ℕ) → k ≤ 27 → m ≡ 31 * 2 ^ k → ⊥) → (l : ℕ) → ace_low m ≡ 31 * 2 ^ l → Told (held rs) (Some 1)
+  told_low : ((k : ℕ) → k ≤ 27 → m ≡ 31 * 2 ^ k → ⊥) → (l : ℕ) → ace_low m ≡ 31 * 2 ^ l → Told (held rs) (Some 1)
   told_low none l e =
       told (Some 1) refl (eq-eqb (ace_low m) 62 (from_ace l e)) (λ k lo hi. grind (arith, nat_tests, none k (omega arith)))
     where
@@ -156,6 +170,12 @@ module _ (rs : List ℕ) (ranks : AllRanks rs) (five : length rs ≡ 5) {m : ℕ
           absurd (none (suc (suc l)) (omega (arith, start_bounds (suc (suc l)) same)) same)
 
   -- no run either way
-  pub told_none : ((k : ℕ) → k ≤ 27 → m ≡ 31 * 2 ^ k → ⊥) → ((k : ℕ) → k ≤ 27 → ace_low m ≡ 31 * 2 ^ k → ⊥) → Told (held rs) None
+  told_none : ((k : ℕ) → k ≤ 27 → m ≡ 31 * 2 ^ k → ⊥) → ((k : ℕ) → k ≤ 27 → ace_low m ≡ 31 * 2 ^ k → ⊥) → Told (held rs) None
   told_none high low =
       told None refl (ne_eqb (ace_low m) 62 (low 1 (omega arith))) (λ k lo hi. ne_eqb m (31 * 2 ^ k) (high k (omega arith)))
+
+  -- what is told of the straight, by the runs of both masks
+  pub told_by : (start low : Option ℕ) → RunStart m start → RunStart (ace_low m) low → Told (held rs) (option_or start (option_and low (Some 1)))
+  told_by (Some l) low high _ = told_high l high
+  told_by None (Some l) high run = told_low high l run
+  told_by None None high none = told_none high none

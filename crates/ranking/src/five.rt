@@ -1,14 +1,12 @@
 // The value of five cards.
 ghost use Rattle.std.specs.Prelude.{◌≡◌, cond, [], ◌∷◌, is_some};
-ghost use Rattle.ranking.specs.Counts.{AllRanks};
 ghost use Rattle.ranking.specs.Masks.{starts_at};
-ghost use Rattle.ranking.specs.Descriptions.{ranks_of, one_suit};
+ghost use Rattle.ranking.specs.Descriptions.{one_suit};
 ghost use Rattle.ranking.specs.Groups.{joined_class};
 ghost use Rattle.ranking.specs.Values.{value_of, BestDescribed, WellRead};
 
 use crate::class::Class;
-use crate::grouping::grouped;
-use crate::straight::straight_start;
+use crate::ranks::FiveRanks;
 use crate::value::Value;
 use cards::card::Card;
 
@@ -18,9 +16,9 @@ pub fn value_of_five(hand: &[Card; 5]) -> Value
     ensures best_class { BestDescribed hand.now result.class }
     ensures well_read { WellRead hand.now result.ranks }
 {
-    let ranks = rank_numbers(hand);
-    let start = straight_start(ranks);
-    let groups = grouped(ranks);
+    let ranks = FiveRanks::of(hand);
+    let start = ranks.straight_start();
+    let groups = ranks.groups();
     let class = class_from(suited(hand), start, groups.class);
     let ranks = read_from(start, groups.ranks);
     Value { class, ranks }
@@ -50,28 +48,10 @@ fn class_from(suited: bool, start: Option<u8>, groups: Class) -> Class
     }
 }
 
-fn rank_numbers(hand: &[Card; 5]) -> [u8; 5]
-    ensures ranks { result ≡ ranks_of hand.now }
-    ensures lawful { AllRanks result }
-{
-    let [a, b, c, d, e] = *hand;
-    [
-        a.rank.number(),
-        b.rank.number(),
-        c.rank.number(),
-        d.rank.number(),
-        e.rank.number(),
-    ]
-}
-
 // All cards have the suit of the first.
 fn suited(hand: &[Card; 5]) -> bool
     ensures { result ≡ one_suit hand.now }
 {
-    let [a, b, c, d, e] = *hand;
-    let suit = a.suit.number();
-    (b.suit.number() == suit)
-        & (c.suit.number() == suit)
-        & (d.suit.number() == suit)
-        & (e.suit.number() == suit)
+    let suit = hand[0].suit;
+    hand.iter().all(|card| card.suit == suit)
 }

@@ -4,5 +4,6 @@
 pub mod class;
 pub mod five;
 mod grouping;
+mod ranks;
 mod straight;
 pub mod value;

@@ -14,9 +14,9 @@ returns c =
     let h = c.args.hand.now in
     let rs = ranks_of h in
     let start = c.straight_start-start.result in
-    let ranks_are : c.rank_numbers-ranks.result ≡ rs = c.rank_numbers-ranks.ensures.ranks in
+    let ranks_are : c.of-ranks.result.numbers ≡ rs = c.of-ranks.ensures in
     let told : Told (held rs) start = subst (λ l. Told (held l) start) ranks_are c.straight_start-start.ensures in
-    let groups_are : c.grouped-groups.result ≡ groups_of rs = c.grouped-groups.ensures ∙ ap groups_of ranks_are in
+    let groups_are : c.groups-groups.result ≡ groups_of rs = c.groups-groups.ensures ∙ ap groups_of ranks_are in
     let class_is : c.class_from-class.result ≡ class_of h
     = c.class_from-class.ensures
     ∙ same_joined c.suited.ensures (sym told.there) (sym (told.runs 10 (lit≤ tt) (lit≤ tt))) (ap (λ g. g.class) groups_are)

@@ -1,6 +1,6 @@
 use Rattle.std.proofs.Common.{◌≡◌, drop}
 use Rattle.ranking.specs.Masks.{masked}
-use Rattle.ranking.proofs.straight.mask_of.Given as goal
+use Rattle.ranking.proofs.ranks.FiveRanks.mask.Given as goal
 
 -- the ranks that are left give the rest of the mask
 abbrev pub invariant-loop-r : goal.invariant-loop-r
