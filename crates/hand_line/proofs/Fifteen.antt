@@ -1,6 +1,7 @@
 -- The first fifteen bytes of a line tell its answer.
 use Rattle.std.proofs.Common.{◌≡◌, ℕ, suc, ◌*◌, ◌<◌, ◌≤◌, List, [], ◌∷◌, ◌++◌, length, take, IfSome, Some, None, Ok, Err, Option, Result, sym, refl, ap, ◌∙◌, ⊎_elim, arith}
 use Rattle.std.proofs.lemmas.List.{length-take, length-append, take_all, take-append-le}
+use Rattle.std.proofs.lemmas.Grind.{common_steps}
 use Rattle.std.proofs.lemmas.Bool.{cases_lt}
 use Rattle.cards.specs.declared.card.Card.{Card}
 use Rattle.cards.specs.declared.fault.TextFault.{TextFault}
@@ -42,15 +43,8 @@ fifteen_tell line =
 
 -- what is kept of a line, with one byte more
 module _ (text kept : List ℕ) (byte : ℕ) (stands : kept ≡ take 15 text) where
-  kept_length : length kept ≡ length (take 15 text)
-  kept_length = ap length stands
-
   pub one_more_kept : length kept < 15 → kept ++ byte ∷ [] ≡ take 15 (text ++ byte ∷ [])
-  one_more_kept room =
-      let short : length text < 15 = omega (arith, kept_length, length-take 15 text) in
-      let all : length (text ++ byte ∷ []) ≤ 15 = omega (arith, length-append text (byte ∷ [])) in
-      ap (λ l. l ++ byte ∷ []) (stands ∙ take_all 15 text (omega arith)) ∙ sym (take_all 15 (text ++ byte ∷ []) all)
+  one_more_kept room = grind (arith, common_steps, take_all, length-take, length-append)
 
   pub no_more_kept : 15 ≤ length kept → kept ≡ take 15 (text ++ byte ∷ [])
-  no_more_kept full =
-      let long : 15 ≤ length text = omega (arith, kept_length, length-take 15 text) in stands ∙ sym (take-append-le 15 text (byte ∷ []) long)
+  no_more_kept full = grind (arith, common_steps, take-append-le, length-take)

@@ -1,8 +1,7 @@
 -- Told byte by byte, an input is answered line by line.
-use Rattle.std.proofs.Common.{◌≡◌, ℕ, Bool, true, false, cond, eqb, List, [], ◌∷◌, ◌++◌, map, length, Some, None, sym, refl, ap, ◌∙◌, arith}
+use Rattle.std.proofs.Common.{◌≡◌, ℕ, Bool, true, false, cond, eqb, List, [], ◌∷◌, ◌++◌, map, Some, None, sym, refl, ap, ◌∙◌, arith}
 use Rattle.std.specs.Option.{option_to_list}
 use Rattle.std.proofs.lemmas.List.{append_assoc, append-nil}
-use Rattle.std.proofs.lemmas.Bool.{ne_eqb}
 use Rattle.hand_line.specs.Answers.{answer_of}
 use Rattle.hand_line.specs.Lines.{told_over, before_lines, lines_of, OneAnswerALine}
 
@@ -14,13 +13,13 @@ continued (t ∷ ts) (l ∷ ls) = ((t ∷ ts) ++ l) ∷ ls
 
 ended : (text : List ℕ) (ls : List (List ℕ)) → continued text ([] ∷ ls) ≡ text ∷ ls
 ended [] ls = refl
-ended (t ∷ ts) ls = ap (λ l. l ∷ ls) (append-nil (t ∷ ts))
+ended (t ∷ ts) ls = grind (arith, append-nil)
 
 one_byte : (text : List ℕ) (b : ℕ) (ls : List (List ℕ)) → continued (text ++ b ∷ []) ls ≡ continued text (before_lines b ls)
 one_byte [] b [] = refl
 one_byte [] b (l ∷ ls) = refl
 one_byte (t ∷ ts) b [] = refl
-one_byte (t ∷ ts) b (l ∷ ls) = ap (λ x. x ∷ ls) (append_assoc (t ∷ ts) (b ∷ []) l)
+one_byte (t ∷ ts) b (l ∷ ls) = grind (arith, append_assoc)
 
 -- one byte of the input is told, and then the rest of it
 step : (text : List ℕ) (b : ℕ) (bs : List ℕ) (newline : Bool)
@@ -33,7 +32,7 @@ step text b bs false fresh going_on = going_on ∙ ap (map answer_of) (one_byte 
 
 told_from : (text input : List ℕ) → told_over text input ≡ map answer_of (continued text (lines_of input))
 told_from [] [] = refl
-told_from (t ∷ ts) [] = ap (λ none. option_to_list (cond none None (Some (answer_of (t ∷ ts))))) (ne_eqb (length (t ∷ ts)) 0 (λ e. omega arith))
+told_from (t ∷ ts) [] = grind arith
 told_from text (b ∷ bs) = step text b bs (eqb b 10) (told_from [] bs) (told_from (text ++ b ∷ []) bs)
 
 pub one_answer_a_line : OneAnswerALine

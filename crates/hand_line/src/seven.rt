@@ -8,27 +8,21 @@ use cards::several::all_different;
 use cards::suit::Suit;
 
 // The cards of a line that is exactly seven different cards, fourteen letters; any other line gives none.
+#[tactic(auto, using(crate::proofs::Reading::seven_and_more))]
 pub fn seven_cards(line: &[u8]) -> Option<[Card; 7]>
     ensures seven_different { result ≡ seven_cards line.now }
 {
-    let mut cards = [Card {
+    let unread = Card {
         rank: Rank::Two,
         suit: Suit::Clubs,
-    }; 7];
+    };
+    let mut cards = [unread; 7];
     let mut rest = line;
-    for i in 0..7 {
-        let Ok((card, behind)) = Card::read(rest) else {
-            return None;
-        };
-        cards[i] = card;
-        rest = behind;
+    for card in &mut cards {
+        (*card, rest) = Card::read(rest).ok()?;
     }
     if !rest.is_empty() {
         return None;
     }
-    if all_different(&cards) {
-        Some(cards)
-    } else {
-        None
-    }
+    all_different(&cards).then_some(cards)
 }
