@@ -40,7 +40,7 @@ impl fmt::Display for Answer {
         let Some(value) = self.best else {
             return f.write_str("-");
         };
-        let class = value.class.number();
+        let class = u8::from(value.class);
         let [a, b, c, d, e] = value.ranks;
         write!(f, "{class} {a} {b} {c} {d} {e}")
     }
