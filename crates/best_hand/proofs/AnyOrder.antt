@@ -2,8 +2,8 @@
 use Rattle.std.proofs.Common.{◌≡◌, ℕ, ◌+◌, Bool, true, false, cond, ◌&&◌, eqb, List, [], ◌∷◌, refl, ap, ap₂, arith}
 use mathlib.Core.Path.{fun_ext}
 use Rattle.std.specs.List.Sorted.{IsPermutation}
-use Rattle.std.specs.List.{AllByRecursion as All}
-use Rattle.std.proofs.ByRecursion.{All-map, all-has}
+use Rattle.std.specs.Prelude.{All}
+use Rattle.std.proofs.lemmas.List.Elements.{All-map, All-contains, All-head, All-nil}
 use Rattle.std.proofs.lemmas.List.Sorted.{IsPermutation-sym}
 use Rattle.cards.specs.declared.card.Card.{Card}
 use Rattle.cards.specs.Ranks.{rank_number}
@@ -89,14 +89,14 @@ Reaches vs w = lower (highest_value vs) w ≡ false
 
 -- what holds of all values holds of the highest
 highest_holds : (P : Value → Type 0) (v : Value) (vs : List Value) → All P (v ∷ vs) → P (highest_value (v ∷ vs))
-highest_holds P v vs all = all-has P (v ∷ vs) (highest_value (v ∷ vs)) all (highest_value_is_one (v ∷ vs) (omega arith))
+highest_holds P v vs all = All-contains P (v ∷ vs) (highest_value (v ∷ vs)) all (highest_value_is_one (v ∷ vs) (omega arith))
 
 -- lists with the same values, in whatever order and however often, have the same highest value
 same_highest : (vs ws : List Value) → ((P : Value → Type 0) → All P vs → All P ws) → ((P : Value → Type 0) → All P ws → All P vs)
     → highest_value ws ≡ highest_value vs
 same_highest [] [] there back = refl
-same_highest [] (w ∷ ws) there back = absurd (there (λ u. ⊥) tt).0
-same_highest (v ∷ vs) [] there back = absurd (back (λ u. ⊥) tt).0
+same_highest [] (w ∷ ws) there back = absurd (All-head (λ u. ⊥) w ws (there (λ u. ⊥) (All-nil _)))
+same_highest (v ∷ vs) [] there back = absurd (All-head (λ u. ⊥) v vs (back (λ u. ⊥) (All-nil _)))
 same_highest (v ∷ vs) (w ∷ ws) there back =
     lower_same (highest_value (w ∷ ws)) (highest_value (v ∷ vs))
     (highest_holds (Reaches (w ∷ ws)) v vs (back (Reaches (w ∷ ws)) (none_exceeds_highest (w ∷ ws))))

@@ -1,9 +1,10 @@
 -- Lists with the same things in another order, and the choices from them.
-use Rattle.std.proofs.Common.{◌≡◌, ℕ, zero, suc, ◌<◌, List, [], ◌∷◌, ◌++◌, map, length, get_or, set, sym, refl, ap, ◌∙◌, subst, le_of_suc-le-suc, not-suc-le-zero, arith}
+use Rattle.std.proofs.Common.{◌≡◌, ℕ, zero, suc, ◌+◌, ◌<◌, List, [], ◌∷◌, ◌++◌, map, length, get_or, set, sym, refl, ap, ◌∙◌, subst, le_of_suc-le-suc, not-suc-le-zero, arith}
 use Rattle.std.specs.List.Sorted.{IsPermutation}
-use Rattle.std.specs.List.{swap, AllByRecursion as All}
-use Rattle.std.proofs.ByRecursion.{All-append, All-map, All-weaker}
-use Rattle.std.proofs.lemmas.List.Sorted.{IsPermutation-keeps, IsPermutation-cons, IsPermutation-swap}
+use Rattle.std.specs.Prelude.{All, swap}
+use Rattle.std.proofs.lemmas.List.{get_or-map, get_or_append_left, get_or-append-add, length-append, length-map}
+use Rattle.std.proofs.lemmas.List.Elements.{All-append, All-map, All-weaker, All-head, All-cons, All-nil}
+use Rattle.std.proofs.lemmas.List.Sorted.{All-permutation, IsPermutation-keeps, IsPermutation-cons, IsPermutation-swap}
 use Rattle.best_hand.specs.Choices.{choose}
 
 -- What ties lists step by step: each list to itself, two lists through a third, two lists after the same head, and a list to the one with its
@@ -63,13 +64,14 @@ any_order {X} f more first two = shuffled_tied (λ xs ys. f ys ≡ f xs) record 
 module _ {X : Type 0} (P : X → Type 0) where
   -- what holds of all of a joined list holds of all of each part
   all_parts : (xs ys : List X) → All P (xs ++ ys) → All P xs × All P ys
-  all_parts [] ys all = (tt, all)
-  all_parts (x ∷ xs) ys all = let rest = all_parts xs ys all.1 in ((all.0, rest.0), rest.1)
+  all_parts xs ys all = (
+    λ k d h. subst P (get_or_append_left xs ys d k h) (all k d (omega (arith, length-append xs ys))),
+    λ k d h. subst P (get_or-append-add xs ys k d) (all (length xs + k) d (omega (arith, length-append xs ys))),
+  )
 
   -- the library's `All-map`, the other way
   pub all_unmap : {Y : Type 0} (f : Y → X) (ys : List Y) → All P (map f ys) → All (λ y. P (f y)) ys
-  all_unmap f [] all = tt
-  all_unmap f (y ∷ ys) all = (all.0, all_unmap f ys all.1)
+  all_unmap f ys all k d h = subst P (get_or-map f ys k d (f d) h) (all k (f d) (omega (arith, length-map ys f)))
 
 -- All choices from x and xs are those that take x and those that leave it.
 module _ {X : Type 0} (Q : List X → Type 0) (n : ℕ) (x : X) (xs : List X) where
@@ -102,7 +104,8 @@ module _ {X V : Type 0} (P : V → Type 0) where
   -- The choices that take both x and y change their order; those that take one of them or neither stay as they are.
   carries_across : (x y : X) (xs : List X) → Carries (x ∷ y ∷ xs) (y ∷ x ∷ xs)
   carries_across x y xs zero f any all = all
-  carries_across x y xs (suc zero) f any all = (all.1.0, (all.0, all.1.1))
+  carries_across x y xs (suc zero) f any all =
+      All-permutation (Holds f) ((x ∷ []) ∷ (y ∷ []) ∷ choose 1 xs) _ (IsPermutation-swap _ _ 0 1 (omega arith) (omega arith) refl) all
   carries_across x y xs (suc (suc n)) f any all =
       let parts = chosen_parts (Holds f) (suc n) x (y ∷ xs) all in
       let taking_x = chosen_parts (λ g. Holds f (x ∷ g)) n y xs parts.0 in

@@ -1,12 +1,11 @@
 -- The best hand of seven cards.
-use Rattle.std.specs.Prelude.{◌≡◌, false, List, [], ◌∷◌, map}
+use Rattle.std.specs.Prelude.{◌≡◌, false, List, [], ◌∷◌, map, All, Contains}
 use Rattle.cards.specs.declared.card.Card.{Card}
 use Rattle.ranking.specs.declared.value.Value.{Value}
 use Rattle.ranking.specs.declared.class.Class.TheVariants.{NoPair}
 use Rattle.ranking.specs.Values.{value_of}
 use Rattle.ranking.specs.Order.{lower}
 use Rattle.search.specs.Highest.{leading}
-use Rattle.std.specs.List.{ContainsAt, AllByRecursion}
 use Rattle.best_hand.specs.declared.best.BestHand.{BestHand}
 use Rattle.best_hand.specs.Choices.{choose}
 
@@ -24,4 +23,4 @@ best_hand cards = record { value = highest_value (values_of_choices cards) }
 
 -- some choice of five has this value, and none has a higher one
 abbrev pub HighestOfChoices : List Card → Value → Type 0
-HighestOfChoices cards v = ContainsAt (values_of_choices cards) v × AllByRecursion (λ w. lower v w ≡ false) (values_of_choices cards)
+HighestOfChoices cards v = Contains (values_of_choices cards) v × All (λ w. lower v w ≡ false) (values_of_choices cards)
