@@ -1,6 +1,6 @@
 -- The sheet at a rate keeps the law: more classes, more halves.
-use Rattle.std.specs.Prelude.{◌≡◌, ℕ, ◌*◌, ◌<◌, ◌≤◌, min, true, false, cond, None, Option, nat_le}
-use Rattle.std.proofs.Common.{sym, ap, subst, mul-le-mul_left, arith}
+use Rattle.std.specs.Prelude.{◌≡◌, ℕ, ◌*◌, ◌≤◌, min, Option}
+use Rattle.std.proofs.Common.{mul-le-mul_left, arith}
 use Rattle.std.proofs.lemmas.Bool.Decides.{nat_tests}
 use Rattle.odds.specs.declared.Odds.{Odds}
 use Rattle.odds.specs.Figures.{odds_of}
@@ -14,10 +14,7 @@ module _ (sheet : RateSheet) where
   computed class = odds_of (min (sheet.halves * class) 1000) 2
 
   to_nine : (class : ℕ) → class ≤ 9 → rate_sheet sheet class ≡ computed class
-  to_nine class h = let t : nat_le class 9 ≡ true = grind (arith, nat_tests) in ap (λ b. cond b (computed class) None) t
-
-  above_nine : (class : ℕ) → 9 < class → rate_sheet sheet class ≡ None
-  above_nine class h = let t : nat_le class 9 ≡ false = grind (arith, nat_tests) in ap (λ b. cond b (computed class) None) t
+  to_nine class h = grind (arith, nat_tests)
 
   no_worse : (class better : ℕ) → class ≤ better → NoWorse (computed class) (computed better)
   no_worse class better h =
@@ -26,8 +23,6 @@ module _ (sheet : RateSheet) where
 
   pub rate_sheet_is_lawful : Lawful (rate_sheet sheet)
   rate_sheet_is_lawful = record {
-    better_class_no_worse = λ class better h k.
-        subst (λ e. NoWorse e (rate_sheet sheet better)) (sym (to_nine class (omega arith)))
-        (subst (λ e. NoWorse (computed class) e) (sym (to_nine better k)) (no_worse class better h));
-    nothing_above_nine = above_nine;
+    better_class_no_worse = λ class better h k. rw (to_nine class (omega arith), to_nine better k) (no_worse class better h);
+    nothing_above_nine = λ class h. grind (arith, nat_tests);
   }
