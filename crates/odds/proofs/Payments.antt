@@ -1,5 +1,5 @@
 -- What odds pay, law by law.
-use Rattle.std.proofs.Common.{◌≡◌, ℕ, ◌*◌, ◌<◌, ◌≤◌, true, false, sym, subst, mul-le-mul_right, div-mul-le_self, arith}
+use Rattle.std.proofs.Common.{◌≡◌, ℕ, ◌*◌, ◌<◌, ◌≤◌, true, false, sym, subst, mul-le-mul_right, div-mul-le_self, arith, rules}
 use Rattle.std.proofs.Math.Nat.{lt-div-mul-add}
 use Rattle.std.proofs.lemmas.Bool.Decides.{nat_tests}
 use Rattle.odds.specs.declared.Odds.{Odds}
@@ -22,13 +22,10 @@ larger_wager_pays_no_less odds v w h = more_brings _ _ _ odds.denominator_from_1
 pub no_lower_odds_pay_no_less : (o p : Odds) → lower o p ≡ false → (wager : ℕ) → pays p wager ≤ pays o wager
 unfolding pays
 no_lower_odds_pay_no_less o p h wager =
-    no_less_brings o.numerator o.denominator p.numerator p.denominator wager o.denominator_from_1 p.denominator_from_1 (not_lower o p h)
+    no_less_brings _ _ _ _ wager o.denominator_from_1 p.denominator_from_1 (not_lower o p h)
 
 -- on the two denominators multiplied nothing is rounded, so that lower odds pay less there
 pub lower_odds_pay_less : (o p : Odds) → lower o p ≡ true → (wager : ℕ) × (pays o wager < pays p wager)
 unfolding pays
 lower_odds_pay_less o p h =
-    let crossed : o.numerator * p.denominator < p.numerator * o.denominator = grind (arith, nat_tests) in (
-      o.denominator * p.denominator,
-      less_brings_less o.numerator o.denominator p.numerator p.denominator o.denominator_from_1 p.denominator_from_1 crossed,
-    )
+    (o.denominator * p.denominator, less_brings_less _ _ _ _ o.denominator_from_1 p.denominator_from_1 (search (rules, nat_tests)))

@@ -2,6 +2,8 @@
 use Rattle.std.proofs.Common.{◌≡◌, ℕ, ◌≤◌, Bool, true, false, cond, ◌&&◌, T, leb, Some, None, Option, sym, refl, ap, ◌∙◌, arith}
 use mathlib.Core.HLevel.{is_prop→PathP}
 use native.Mathlib.Bridge.{le_prop}
+use Rattle.std.proofs.lemmas.Option.{some_pair_parts}
+use Rattle.std.proofs.lemmas.Bool.Decides.{nat_tests}
 use Rattle.odds.specs.declared.Odds.{Odds}
 use Rattle.odds.specs.Figures.{figures, figures_in_range, where_met, odds_of}
 
@@ -17,31 +19,21 @@ same_figures o p n d = λ i. record {
 
 pub same_entries : (e f : Option Odds) → figures e ≡ figures f → e ≡ f
 same_entries None None h = refl
-same_entries None (Some p) h = let z : ◌≡◌ {A = ℕ} 0 1 = cc in absurd (omega arith)
-same_entries (Some o) None h = let z : ◌≡◌ {A = ℕ} 0 1 = cc in absurd (omega arith)
-same_entries (Some o) (Some p) h =
-    let both : ◌≡◌ {A = ℕ × ℕ} (o.numerator, o.denominator) (p.numerator, p.denominator) = cc in
-    ap Some (same_figures o p (ap (λ fs. fs.0) both) (ap (λ fs. fs.1) both))
+same_entries None (Some p) h = cc
+same_entries (Some o) None h = cc
+same_entries (Some o) (Some p) h = let both = some_pair_parts _ _ _ _ h in ap Some (same_figures o p both.0 both.1)
 
-module _ (fs : ℕ × ℕ) where
-  last_test : (test : Bool) (then : T test → Option Odds) → ((t : T test) → figures (then t) ≡ Some fs)
-      → figures (where_met test then) ≡ cond test (Some fs) None
-  last_test true then h = h tt
-  last_test false then h = refl
-
-  one_test_more : (test rest : Bool) (then : T test → Option Odds) → ((t : T test) → figures (then t) ≡ cond rest (Some fs) None)
-      → figures (where_met test then) ≡ cond (test && rest) (Some fs) None
-  one_test_more true rest then h = h tt
-  one_test_more false rest then h = refl
+figures_where_met : (test : Bool) (then : T test → Option Odds) {fs : Option (ℕ × ℕ)} → ((t : T test) → figures (then t) ≡ fs)
+    → figures (where_met test then) ≡ cond test fs None
+figures_where_met true then h = h tt
+figures_where_met false then h = refl
 
 pub figures_of_odds : (n d : ℕ) → figures (odds_of n d) ≡ figures_in_range n d
 unfolding odds_of
 figures_of_odds n d =
-    one_test_more (n, d) (leb 1 n) (leb n 1000 && (leb 1 d && leb d 100)) _ λ _.
-    one_test_more (n, d) (leb n 1000) (leb 1 d && leb d 100) _ λ _.
-    one_test_more (n, d) (leb 1 d) (leb d 100) _ λ _.
-    last_test (n, d) (leb d 100) _ λ _.
-    refl
+    let each_test : figures (odds_of n d) ≡ cond (leb 1 n) (cond (leb n 1000) (cond (leb 1 d) (cond (leb d 100) (Some (n, d)) None) None) None) None
+    = figures_where_met (leb 1 n) _ λ _. figures_where_met (leb n 1000) _ λ _. figures_where_met (leb 1 d) _ λ _. figures_where_met (leb d 100) _ λ _. refl in
+    grind (arith, nat_tests)
 
 -- so whatever has the figures is the odds of the definition
 pub is_odds_of : (n d : ℕ) {e : Option Odds} → figures e ≡ figures_in_range n d → e ≡ odds_of n d

@@ -26,7 +26,5 @@ lower_one_way o p h = grind (arith, nat_tests)
 
 pub lower_chain : (o p q : Odds) → lower o p ≡ false → lower p q ≡ false → lower o q ≡ false
 lower_chain o p q h k =
-    let n =
-    no_less_chain o.numerator o.denominator p.numerator p.denominator q.numerator q.denominator
-    p.denominator_from_1 (not_lower o p h) (not_lower p q k) in
+    let n = no_less_chain _ _ _ _ _ _ p.denominator_from_1 (not_lower o p h) (not_lower p q k) in
     grind (arith, nat_tests)

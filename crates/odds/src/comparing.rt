@@ -15,6 +15,7 @@ impl Ranked for Odds {
 
     ghost chain = { lower_chain };
 
+    #[tactic(auto, using(crate::proofs::Payments::no_lower_odds_pay_no_less, crate::proofs::Payments::lower_odds_pay_less))]
     fn is_below(&self, other: &Odds) -> bool
         ensures exceeded { result ≡ lower self.now other.now }
         ensures no_lower_odds_pay_no_less { result ≡ false → (wager : ℕ) → pays other.now wager ≤ pays self.now wager }
