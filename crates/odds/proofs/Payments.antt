@@ -1,5 +1,5 @@
 -- What odds pay, law by law.
-use Rattle.std.proofs.Common.{◌≡◌, ℕ, ◌*◌, ◌<◌, ◌≤◌, true, false, sym, subst, mul-le-mul_right, div-mul-le_self, arith, rules}
+use Rattle.std.proofs.Common.{◌≡◌, ℕ, ◌*◌, ◌<◌, ◌≤◌, true, false, mul-le-mul_right, div-mul-le_self, rules}
 use Rattle.std.proofs.Math.Nat.{lt-div-mul-add}
 use Rattle.std.proofs.lemmas.Bool.Decides.{nat_tests}
 use Rattle.odds.specs.declared.Odds.{Odds}
@@ -11,9 +11,6 @@ use Rattle.odds.proofs.Rounding.{more_brings, no_less_brings, less_brings_less}
 pub pays_rounded_down : (odds : Odds) (wager : ℕ) → RoundedDown odds wager (pays odds wager)
 unfolding pays
 pays_rounded_down odds wager = (div-mul-le_self _ _, lt-div-mul-add odds.denominator_from_1)
-
-pub what_is_paid_is_rounded_down : (odds : Odds) (wager : ℕ) {paid : ℕ} → paid ≡ pays odds wager → RoundedDown odds wager paid
-what_is_paid_is_rounded_down odds wager e = subst (RoundedDown odds wager) (sym e) (pays_rounded_down odds wager)
 
 pub larger_wager_pays_no_less : (odds : Odds) (v w : ℕ) → v ≤ w → pays odds v ≤ pays odds w
 unfolding pays

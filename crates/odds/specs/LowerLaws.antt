@@ -1,7 +1,7 @@
 -- The order of odds is total: it goes one way, and an order that is not broken step by step is not broken at all. The law that odds owe to the
 -- search rests on it.
 use Rattle.std.specs.Prelude.{◌≡◌, ℕ, ◌*◌, ◌≤◌, true, false}
-use Rattle.std.proofs.Common.{le_trans, le_of_eq, mul_right_comm, mul-le-mul_right, le_of_mul-le-mul_right, arith}
+use Rattle.std.proofs.Common.{mul-le-mul_right, le_of_mul-le-mul_right, arith}
 use Rattle.std.proofs.lemmas.Bool.Decides.{nat_tests}
 use Rattle.odds.specs.declared.Odds.{Odds}
 use Rattle.odds.specs.Fractions.{lower}
@@ -13,9 +13,10 @@ NoLess a b c d = c * b ≤ a * d
 -- the middle fraction falls out
 pub no_less_chain : (a b c d e f : ℕ) → 1 ≤ d → NoLess a b c d → NoLess c d e f → NoLess a b e f
 no_less_chain a b c d e f d_pos h k =
-    let down : e * b * d ≤ c * f * b = le_trans (le_of_eq (mul_right_comm e b d)) (mul-le-mul_right b k) in
-    let up : c * f * b ≤ a * d * f = le_trans (le_of_eq (mul_right_comm c f b)) (mul-le-mul_right f h) in
-    le_of_mul-le-mul_right (le_trans down (le_trans up (le_of_eq (mul_right_comm a d f)))) d_pos
+    let down : e * d * b ≤ c * f * b = mul-le-mul_right b k in
+    let up : c * b * f ≤ a * d * f = mul-le-mul_right f h in
+    let both : e * b * d ≤ a * f * d = omega arith in
+    le_of_mul-le-mul_right both d_pos
 
 -- odds that are not lower are no less as a fraction
 pub not_lower : (o p : Odds) → lower o p ≡ false → NoLess o.numerator o.denominator p.numerator p.denominator
