@@ -1,8 +1,8 @@
 -- What a lawful sheet pays, law by law.
-use Rattle.std.proofs.Common.{◌≡◌, ℕ, ◌≤◌, Some, None, Option, sym, refl, ap, ◌∙◌, subst, zero-le}
+use Rattle.std.proofs.Common.{ℕ, ◌≤◌, Some, None, Option, zero-le}
 use Rattle.odds.specs.declared.Odds.{Odds}
-use Rattle.odds.proofs.Payments.{pays_rounded_down, larger_wager_pays_no_less, no_lower_odds_pay_no_less}
-use Rattle.paytables.specs.Sheets.{Sheet, NoWorse, Lawful, entry_pays, paid_at, RoundedDownAt}
+use Rattle.odds.proofs.Payments.{larger_wager_pays_no_less, no_lower_odds_pay_no_less}
+use Rattle.paytables.specs.Sheets.{NoWorse, entry_pays}
 
 pub no_worse_pays_no_less : (first second : Option Odds) → NoWorse first second → (wager : ℕ) → entry_pays first wager ≤ entry_pays second wager
 no_worse_pays_no_less None second h wager = zero-le
@@ -12,25 +12,3 @@ no_worse_pays_no_less (Some odds) (Some better) h wager = no_lower_odds_pay_no_l
 pub entry_pays_larger_no_less : (entry : Option Odds) (wager larger : ℕ) → wager ≤ larger → entry_pays entry wager ≤ entry_pays entry larger
 entry_pays_larger_no_less None wager larger h = zero-le
 entry_pays_larger_no_less (Some odds) wager larger h = larger_wager_pays_no_less odds wager larger h
-
-pub entry_rounded_down : (entry : Option Odds) (wager : ℕ) → RoundedDownAt entry wager (entry_pays entry wager)
-entry_rounded_down None wager = refl
-entry_rounded_down (Some odds) wager = pays_rounded_down odds wager
-
--- what is paid on the entry that a sheet answers is what the sheet pays
-pub answered_entry_is_paid : (sheet : Sheet) (class wager : ℕ) {entry : Option Odds} {paid : ℕ} → entry ≡ sheet class → paid ≡ entry_pays entry wager
-    → paid ≡ paid_at sheet class wager
-answered_entry_is_paid sheet class wager is paid = paid ∙ ap (λ entry. entry_pays entry wager) is
-
-module _ (sheet : Sheet) (class wager paid : ℕ) (e : paid ≡ paid_at sheet class wager) where
-  pub paid_rounded_down : RoundedDownAt (sheet class) wager paid
-  paid_rounded_down = subst (RoundedDownAt (sheet class) wager) (sym e) (entry_rounded_down (sheet class) wager)
-
-  pub better_class_pays_no_less : Lawful sheet → (better : ℕ) → class ≤ better → better ≤ 9 → paid ≤ paid_at sheet better wager
-  better_class_pays_no_less law better h k =
-      subst (λ p. p ≤ paid_at sheet better wager) (sym e)
-      (no_worse_pays_no_less (sheet class) (sheet better) (law.better_class_no_worse class better h k) wager)
-
-  pub larger_wager_is_paid_no_less : (larger : ℕ) → wager ≤ larger → paid ≤ paid_at sheet class larger
-  larger_wager_is_paid_no_less larger h =
-      subst (λ p. p ≤ paid_at sheet class larger) (sym e) (entry_pays_larger_no_less (sheet class) wager larger h)

@@ -1,19 +1,11 @@
-use Rattle.std.proofs.Common.{◌≡◌}
-use Rattle.paytables.specs.Sheets.{paid_at}
-use Rattle.paytables.proofs.PaidAt.{answered_entry_is_paid, paid_rounded_down, better_class_pays_no_less, larger_wager_is_paid_no_less}
+use Rattle.paytables.proofs.PaidAt.{no_worse_pays_no_less, entry_pays_larger_no_less}
 use Rattle.paytables.proofs.paytable.paid_at.Goals as goal
 
-pub returns : goal.returns
-returns g c =
-    let paytable = c.args.paytable.now in
-    let sheet = g.P.Paytable.sheet paytable in
-    let class = c.args.class in
-    let wager = c.args.wager in
-    let paid : c.entry_pays.result ≡ paid_at sheet class wager =
-    answered_entry_is_paid sheet class wager c.entry.ensures.answered c.entry_pays.ensures.paid in
-    record {
-      paid = paid;
-      rounded_down = paid_rounded_down sheet class wager _ paid;
-      better_class_pays_no_less = better_class_pays_no_less sheet class wager _ paid (g.met.P.Paytable.lawful paytable);
-      larger_wager_is_paid_no_less = larger_wager_is_paid_no_less sheet class wager _ paid;
-    }
+pub returns-clause-better_class_pays_no_less : goal.returns-clause-better_class_pays_no_less
+returns-clause-better_class_pays_no_less g c = λ better h k.
+    let law = g.met.P.Paytable.lawful c.args.paytable.now in
+    rw (c.entry_pays.ensures.paid, c.entry.ensures.answered) (no_worse_pays_no_less _ _ (law.better_class_no_worse c.args.class better h k) c.args.wager)
+
+pub returns-clause-larger_wager_is_paid_no_less : goal.returns-clause-larger_wager_is_paid_no_less
+returns-clause-larger_wager_is_paid_no_less g c = λ larger h.
+    rw (c.entry_pays.ensures.paid, c.entry.ensures.answered) (entry_pays_larger_no_less _ c.args.wager larger h)
