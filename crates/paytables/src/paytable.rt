@@ -20,10 +20,7 @@ pub fn entry_pays(entry: Option<Odds>, wager: u32) -> u64
     ensures paid { result ≡ entry_pays entry wager }
     ensures rounded_down { RoundedDownAt entry wager result }
 {
-    match entry {
-        Some(odds) => odds.pays(wager),
-        None => 0,
-    }
+    entry.map_or(0, |odds| odds.pays(wager))
 }
 
 // What a sheet pays at a class on a wager.

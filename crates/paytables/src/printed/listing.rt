@@ -1,6 +1,6 @@
 // Making a printed sheet of ten entries, and asking it.
 ghost use Rattle.std.specs.Prelude.{◌≡◌};
-ghost use Rattle.paytables.specs.Lists.{may_follow};
+ghost use Rattle.paytables.specs.Lists.{may_follow, rising};
 ghost use Rattle.paytables.specs.Makes.{printed_sheet, entries_of, entries_if_rising, MadeWhereLawful};
 ghost use Rattle.paytables.specs.RisingLaws.{rising_is_lawful};
 
@@ -15,14 +15,8 @@ impl PrintedSheet {
         ensures lists_the_entries { entries_of result ≡ entries_if_rising entries }
         ensures made_where_lawful { MadeWhereLawful entries result }
     {
-        // nothing stands below class 0
-        let mut before = None;
-        for entry in &entries {
-            let fits = may_follow(before, *entry);
-            if !fits {
-                return None;
-            }
-            before = *entry;
+        if !rising(&entries) {
+            return None;
         }
         Some(PrintedSheet { entries })
     }
@@ -43,15 +37,16 @@ impl Paytable for PrintedSheet {
     }
 }
 
+// Whether each entry may follow the one before it; nothing stands below the first.
+fn rising(entries: &[Option<Odds>; 10]) -> bool
+    ensures { result ≡ rising entries.now }
+{
+    entries.is_sorted_by(|entry, next| may_follow(*entry, *next))
+}
+
 // Whether `next` may stand for the class above that of `entry`.
 fn may_follow(entry: Option<Odds>, next: Option<Odds>) -> bool
     ensures { result ≡ may_follow entry next }
 {
-    let Some(odds) = entry else {
-        return true;
-    };
-    let Some(better) = next else {
-        return false;
-    };
-    !better.is_below(&odds)
+    entry.is_none_or(|odds| next.is_some_and(|better| !better.is_below(&odds)))
 }
