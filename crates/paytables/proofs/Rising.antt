@@ -1,5 +1,5 @@
 -- A list of ten entries that keeps the law of a paytable rises from entry to entry, and its neighbours tell whether it does.
-use Rattle.std.proofs.Common.{◌≡◌, ℕ, zero, suc, add-one, ◌+◌, ◌<◌, Bool, true, false, not, List, [], ◌∷◌, length, Some, None, Option, get_or, refl, sym, ap, ◌∙◌, arith}
+use Rattle.std.proofs.Common.{◌≡◌, ℕ, zero, suc, add-one, ◌<◌, Bool, true, false, not, List, [], ◌∷◌, length, Some, None, Option, get_or, refl, sym, ap, arith}
 use Rattle.std.specs.List.{IsAllAdjacentAnswer}
 use Rattle.std.proofs.lemmas.Bool.Decides.{nat_tests}
 use Rattle.odds.specs.declared.Odds.{Odds}

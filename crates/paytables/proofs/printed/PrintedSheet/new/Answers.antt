@@ -1,4 +1,4 @@
-use Rattle.std.proofs.Common.{◌≡◌, length, refl, arith, rules}
+use Rattle.std.proofs.Common.{refl, arith, rules}
 use Rattle.std.proofs.lemmas.Bool.Decides.{nat_tests}
 use Rattle.paytables.specs.RisingLaws.{rising_is_lawful}
 use Rattle.paytables.proofs.Rising.{lawful_is_rising}
