@@ -10,7 +10,7 @@ impl Odds {
         ensures made { result ≡ odds_of numerator denominator }
         ensures with_these_figures { figures result ≡ figures_in_range numerator denominator }
     {
-        let in_range = (1..=1000).contains(&numerator) & (1..=100).contains(&denominator);
+        let in_range = (1..=1000).contains(&numerator) && (1..=100).contains(&denominator);
         if !in_range {
             return None;
         }
