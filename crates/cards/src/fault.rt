@@ -12,7 +12,9 @@ pub enum CodeFault {
 impl From<CodeFault> for u8 {
     ghost from_gives = { λ fault number. number ≡ code_fault_number fault };
 
-    fn from(fault: CodeFault) -> u8 {
+    fn from(fault: CodeFault) -> u8
+        ensures number { result ≡ code_fault_number fault }
+    {
         match fault {
             CodeFault::Above51 => 4,
         }

@@ -46,7 +46,9 @@ impl Rank {
 impl From<Rank> for u8 {
     ghost from_gives = { λ rank number. number ≡ rank_number rank };
 
-    fn from(rank: Rank) -> u8 {
+    fn from(rank: Rank) -> u8
+        ensures number { result ≡ rank_number rank }
+    {
         rank as u8
     }
 }
@@ -55,7 +57,9 @@ impl From<Rank> for u8 {
 impl From<Rank> for char {
     ghost from_gives = { λ rank letter. letter ≡ rank_letter rank };
 
-    fn from(rank: Rank) -> char {
+    fn from(rank: Rank) -> char
+        ensures letter { result ≡ rank_letter rank }
+    {
         match rank {
             Rank::Two => '2',
             Rank::Three => '3',

@@ -22,7 +22,9 @@ impl Suit {
 impl From<Suit> for u8 {
     ghost from_gives = { λ suit number. number ≡ suit_number suit };
 
-    fn from(suit: Suit) -> u8 {
+    fn from(suit: Suit) -> u8
+        ensures number { result ≡ suit_number suit }
+    {
         suit as u8
     }
 }
@@ -31,7 +33,9 @@ impl From<Suit> for u8 {
 impl From<Suit> for char {
     ghost from_gives = { λ suit letter. letter ≡ suit_letter suit };
 
-    fn from(suit: Suit) -> char {
+    fn from(suit: Suit) -> char
+        ensures letter { result ≡ suit_letter suit }
+    {
         match suit {
             Suit::Clubs => 'c',
             Suit::Diamonds => 'd',
