@@ -10,7 +10,7 @@ use ranking::value::Value;
 use std::fmt;
 
 // The value of the best hand of seven cards; none for a line that is not seven different cards.
-#[derive(Clone, Copy)]
+#[derive(Clone, Copy, Debug, PartialEq, Eq)]
 pub struct Answer {
     pub best: Option<Value>,
 }
