@@ -1,15 +1,12 @@
--- The published entries rise, by computing, and so each list makes the sheet that lists it.
-use Rattle.std.proofs.Common.{◌≡◌, true, cond, List, is_some, Some, None, Option, sym, refl, ap, ◌∙◌}
-use Rattle.odds.specs.declared.Odds.{Odds}
+-- The published entries rise, by computing, and so each list makes its sheet.
+use Rattle.std.proofs.Common.{◌≡◌, true, refl}
 use Rattle.odds.specs.Figures.{odds_of}
-use Rattle.paytables.specs.declared.printed.PrintedSheet.{PrintedSheet}
 use Rattle.paytables.specs.Lists.{rising}
-use Rattle.paytables.specs.Makes.{entries_of, entries_if_rising}
 use Rattle.published_sheets.specs.declared.PublishedSheet.{PublishedSheet}
 use Rattle.published_sheets.specs.declared.PublishedSheet.TheVariants.{Blind, TripsA, TripsB, TripsC, TripsD, TripsE}
 use Rattle.published_sheets.specs.Published.{published_entries}
 
-published_entries_rise : (p : PublishedSheet) → rising (published_entries p) ≡ true
+pub published_entries_rise : (p : PublishedSheet) → rising (published_entries p) ≡ true
 unfolding odds_of
 published_entries_rise Blind = refl
 published_entries_rise TripsA = refl
@@ -17,20 +14,3 @@ published_entries_rise TripsB = refl
 published_entries_rise TripsC = refl
 published_entries_rise TripsD = refl
 published_entries_rise TripsE = refl
-
-module _ (p : PublishedSheet) (es : List (Option Odds)) (made : Option PrintedSheet) (e : es ≡ published_entries p) (h : entries_of made ≡ entries_if_rising es) where
-  made_of_entries : entries_of made ≡ Some es
-  made_of_entries = h ∙ ap (λ b. cond b (Some es) None) (ap rising e ∙ published_entries_rise p)
-
-  pub published_is_made : is_some made ≡ true
-  published_is_made = same made ∙ ap is_some made_of_entries
-    where
-      same : (s : Option PrintedSheet) → is_some s ≡ is_some (entries_of s)
-      same None = refl
-      same (Some sheet) = refl
-
-  pub published_is_listed : (sheet : PrintedSheet) → made ≡ Some sheet → sheet.entries ≡ published_entries p
-  published_is_listed sheet is =
-      let both : ◌≡◌ {A = Option (List (Option Odds))} (Some sheet.entries) (Some es) = sym (ap entries_of is) ∙ made_of_entries in
-      let same : sheet.entries ≡ es = cc in
-      same ∙ e

@@ -21,6 +21,7 @@ pub enum PublishedSheet {
 }
 
 impl PublishedSheet {
+    #[tactic(auto, using(crate::proofs::Rise::published_entries_rise))]
     pub fn sheet(self) -> PrintedSheet
         ensures entries { result.entries ≡ published_entries self }
         ensures lawful { Lawful (printed_sheet result) }
