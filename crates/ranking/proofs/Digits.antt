@@ -1,112 +1,52 @@
--- Binary digits of a number, and numbers of which five digits in a row are set.
-use Rattle.std.proofs.Common.{◌≡◌, ℕ, zero, suc, ◌+◌, ◌-◌, ◌*◌, ◌/◌, ◌%◌, ◌^◌, ◌<◌, ◌≤◌, max, cond, ◌&&◌, eqb, leb, refl, ap, ◌∙◌, subst, inl, inr, pow-suc, one-add, arith, pow_pos, pow-add, shr-shr}
-use lib.Arith.{bin_ind}
-use lib.Bits.{bit_or, or_step, block_half, block_odd, shifted_half, shifted_even}
-use lib.Count.{ones, count_leading_zeros, count_trailing_zeros, under, ones_step, ones_cat, ones-ones, ones-le, leading_length, leading_unique}
-use lib.Dec.{eqb-zero-suc, eqb-suc-zero, eqb-suc-suc}
-use lib.Pow.{pow-lt}
+-- Numbers of which five digits in a row are set: 31 * 2 ^ l, a run from place l.
+use Rattle.std.proofs.Common.{◌≡◌, ℕ, zero, suc, ◌+◌, ◌-◌, ◌*◌, ◌/◌, ◌%◌, ◌^◌, ◌<◌, ◌≤◌, refl, ap, ◌∙◌, subst, inl, inr, pow-suc, arith, lit≤, pow_pos, pow-add, shr-shr}
+use Rattle.std.specs.Int.{bit_at}
 use Rattle.std.proofs.lemmas.Bool.{cases_order}
-use Rattle.std.proofs.lemmas.Bool.Decides.{nat_tests}
-
--- digit j of n, the lowest being digit 0
-abbrev pub digit : ℕ → ℕ → ℕ
-digit zero n = n % 2
-digit (suc j) n = digit j (n / 2)
-
--- the same by one division
-pub digit_at : (j n : ℕ) → digit j n ≡ n / 2 ^ j % 2
-digit_at zero n = omega arith
-digit_at (suc j) n = digit_at j (n / 2) ∙ ap (λ (x : ℕ). x % 2) (shr-shr n 1 j) ∙ ap (λ (k : ℕ). n / 2 ^ k % 2) (one-add j)
-
--- digits below k, whatever stands from k on
-pub digit_below : (k j a n : ℕ) → j < k → digit j (a * 2 ^ k + n) ≡ digit j n
-digit_below zero j a n h = omega arith
-digit_below (suc k) zero a n h = block_odd a k n
-digit_below (suc k) (suc j) a n h = ap (digit j) (block_half a k n) ∙ digit_below k j a (n / 2) (omega arith)
-
--- without its lowest digit, a | b is what a and b are without theirs
-or_half : (a b : ℕ) → bit_or a b / 2 ≡ bit_or (a / 2) (b / 2)
-or_half a b = omega (arith, or_step a b)
-
--- a digit of a | b is set where it is in a or in b
-pub digit_or : (j a b : ℕ) → digit j (bit_or a b) ≡ max (digit j a) (digit j b)
-digit_or zero a b = omega (arith, or_step a b)
-digit_or (suc j) a b = ap (digit j) (or_half a b) ∙ digit_or j (a / 2) (b / 2)
-
--- 0 has no digit set
-pub digit_of_zero : (j : ℕ) → digit j 0 ≡ 0
-digit_of_zero zero = refl
-digit_of_zero (suc j) = digit_of_zero j
-
--- without its lowest digit, a power of two is the one before it
-pow_half : (r : ℕ) → 2 ^ suc r / 2 ≡ 2 ^ r
-pow_half r = omega (arith, pow-suc 2 r)
-
--- the one digit of a power of two
-pub digit_pow : (j r : ℕ) → digit j (2 ^ r) ≡ cond (eqb r j) 1 0
-digit_pow zero zero = refl
-digit_pow zero (suc r) = simp eqb-suc-zero (omega (arith, pow-suc 2 r))
-digit_pow (suc j) zero = simp eqb-zero-suc (digit_of_zero j)
-digit_pow (suc j) (suc r) = simp eqb-suc-suc (ap (digit j) (pow_half r) ∙ digit_pow j r)
+use Rattle.std.proofs.lemmas.Nat.{zero_from_ones}
+use Rattle.std.proofs.lemmas.Nat.Bits.{bit_at_mask_inside}
+use lib.Arith.{bin_ind}
+use lib.Bits.{bit_or, or_step, shifted_half, shifted_even}
+use lib.Count.{ones, count_leading_zeros, count_trailing_zeros, under, ones_step, ones_cat, ones-ones, ones-le, leading_length, leading_unique}
+use lib.Pow.{pow-lt}
 
 -- a | b has at most as many digits set as a and b together
 pub ones_or : (a b : ℕ) → ones (bit_or a b) ≤ ones a + ones b
 ones_or =
     bin_ind (λ (a : ℕ). (b : ℕ) → ones (bit_or a b) ≤ ones a + ones b) (λ b. omega arith)
-    (λ a ih b. omega (arith, or_step a b, ones_step (bit_or a b), ap ones (or_half a b), ones_step a, ones_step b, ih (b / 2)))
-
--- the counts of 0 and of a power of two
-pub ones_zero : ones 0 ≡ 0
-ones_zero = ones-ones 0
+    (λ a ih b.
+    let half : bit_or a b / 2 ≡ bit_or (a / 2) (b / 2) = omega (arith, or_step a b) in
+    omega (arith, or_step a b, ones_step (bit_or a b), ap ones half, ones_step a, ones_step b, ih (b / 2)))
 
 -- a shift to the left keeps the count of digits that are set
 pub ones_shifted : (a k : ℕ) → ones (a * 2 ^ k) ≡ ones a
-ones_shifted a k = let e : a * 2 ^ k ≡ a * 2 ^ k + 0 = omega arith in omega (arith, ap ones e, ones_cat k a 0 (pow_pos k), ones_zero)
+ones_shifted a k = let e : a * 2 ^ k ≡ a * 2 ^ k + 0 = omega arith in omega (arith, ap ones e, ones_cat k a 0 (pow_pos k), ones-ones 0)
 
 pub ones_pow : (r : ℕ) → ones (2 ^ r) ≡ 1
 ones_pow r = let e : 2 ^ r ≡ 1 * 2 ^ r = omega arith in ap ones e ∙ ones_shifted 1 r ∙ ones-ones 1
 
--- a number with no digit set is 0
-no_ones : (m : ℕ) → ones m ≡ 0 → m ≡ 0
-no_ones = bin_ind (λ (m : ℕ). ones m ≡ 0 → m ≡ 0) (λ _. refl) (λ m ih e. omega (arith, ones_step m, ih (omega (arith, ones_step m))))
-
--- where each digit of w is set in m too, w has no more of them than m
-sub_ones : (w m : ℕ) → ((j : ℕ) → digit j w ≤ digit j m) → ones w ≤ ones m
-sub_ones =
-    bin_ind (λ (w : ℕ). (m : ℕ) → ((j : ℕ) → digit j w ≤ digit j m) → ones w ≤ ones m) (λ m sub. omega (arith, ones_zero))
-    (λ w ih m sub. omega (arith, ones_step w, ones_step m, sub 0, ih (m / 2) (λ j. sub (suc j))))
-
--- and where it has no fewer either, the two are one number
-same_ones : (w m : ℕ) → ((j : ℕ) → digit j w ≤ digit j m) → ones m ≤ ones w → m ≡ w
-same_ones =
-    bin_ind (λ (w : ℕ). (m : ℕ) → ((j : ℕ) → digit j w ≤ digit j m) → ones m ≤ ones w → m ≡ w)
-    (λ m sub h. no_ones m (omega (arith, ones_zero)))
-    (λ w ih m sub h.
-    let less : ones (w / 2) ≤ ones (m / 2) = sub_ones (w / 2) (m / 2) (λ j. sub (suc j)) in
-    let rest : ones (m / 2) ≤ ones (w / 2) = omega (arith, ones_step w, ones_step m, sub 0) in
-    omega (arith, ones_step w, ones_step m, sub 0, ih (m / 2) (λ j. sub (suc j)) rest))
-
--- ---- five digits in a row: 31 * 2 ^ l
-
--- a run has five digits set
+-- a run has five digits set, those from l to l + 4
 pub run_ones : (l : ℕ) → ones (31 * 2 ^ l) ≡ 5
 run_ones l = ones_shifted 31 l ∙ ones-ones 5
 
--- the digits of such a run: those from l to l + 4
-pub run_digit : (l j : ℕ) → digit j (31 * 2 ^ l) ≡ cond (leb l j && leb j (l + 4)) 1 0
-run_digit zero zero = refl
-run_digit zero (suc zero) = refl
-run_digit zero (suc (suc zero)) = refl
-run_digit zero (suc (suc (suc zero))) = refl
-run_digit zero (suc (suc (suc (suc zero)))) = refl
-run_digit zero (suc (suc (suc (suc (suc j))))) = digit_of_zero j ∙ grind (arith, nat_tests)
-run_digit (suc l) zero = shifted_even 31 l ∙ grind (arith, nat_tests)
-run_digit (suc l) (suc j) = ap (digit j) (shifted_half 31 l) ∙ run_digit l j ∙ grind (arith, nat_tests)
+pub run_digit : (l j : ℕ) → l ≤ j → j ≤ l + 4 → bit_at (31 * 2 ^ l) j ≡ 1
+run_digit l j lo hi =
+    let mask : 31 * 2 ^ l ≡ 2 ^ (l + 5) - 2 ^ l = omega (arith, pow-add 2 l 5) in
+    ap (λ n. bit_at n j) mask ∙ bit_at_mask_inside l (l + 5) j lo (omega arith)
 
--- a number with at most five digits set, those from l to l + 4 among them, is that run
-pub only_run : (m l : ℕ) → ones m ≤ 5 → ((j : ℕ) → l ≤ j → j ≤ l + 4 → digit j m ≡ 1) → m ≡ 31 * 2 ^ l
+-- A number with at most five digits set, those from l to l + 4 among them, is that run: none is left for the digits above and below.
+pub only_run : (m l : ℕ) → ones m ≤ 5 → ((j : ℕ) → l ≤ j → j ≤ l + 4 → bit_at m j ≡ 1) → m ≡ 31 * 2 ^ l
 only_run m l few set =
-    same_ones (31 * 2 ^ l) m (λ j. grind (arith, nat_tests, run_digit l j, set j)) (omega (arith, run_ones l))
+    let n = m / 2 ^ l in
+    let low = m % 2 ^ l in
+    let digit : (i : ℕ) → i ≤ 4 → n / 2 ^ i % 2 ≡ 1 = λ i h. ap (λ (x : ℕ). x % 2) (shr-shr m l i) ∙ set (l + i) (omega arith) (omega arith) in
+    let five : n ≡ n / 32 * 2 ^ 5 + 31 = omega (arith, digit 0 (lit≤ tt), digit 1 (lit≤ tt), digit 2 (lit≤ tt), digit 3 (lit≤ tt), digit 4 (lit≤ tt)) in
+    let whole : m ≡ n * 2 ^ l + low = omega (arith, pow_pos l) in
+    let counted : ones m ≡ ones (n / 32) + 5 + ones low
+    = omega (arith, ap ones whole, ones_cat l n low (omega (arith, pow_pos l)), ap ones five, ones_cat 5 (n / 32) 31 (omega arith), ones-ones 5) in
+    let above : n / 32 ≡ 0 = zero_from_ones (n / 32) (omega arith) in
+    let below : low ≡ 0 = zero_from_ones low (omega arith) in
+    let is : n ≡ 31 = omega arith in
+    whole ∙ rw (is, below) (omega arith)
 
 -- different places give different runs
 pub run_place : (k l : ℕ) → 31 * 2 ^ k ≡ 31 * 2 ^ l → k ≡ l
@@ -131,7 +71,7 @@ all_ones (suc k) m h e =
 pub run_from_zeros : (k m : ℕ) → m < 2 ^ k → ones m ≡ 5 → count_leading_zeros k m + count_trailing_zeros k m + 5 ≡ k → m ≡ 31 * 2 ^ count_trailing_zeros k m
 unfolding count_leading_zeros count_trailing_zeros
 run_from_zeros zero m h five e = omega arith
-run_from_zeros (suc k) zero h five e = omega (arith, ones_zero)
+run_from_zeros (suc k) zero h five e = omega (arith, ones-ones 0)
 run_from_zeros (suc k) (suc n) h five e = go (run_from_zeros k (suc n / 2)) (suc n % 2) refl e
   where
     t : ℕ

@@ -1,15 +1,20 @@
 -- The ranks and the suit of the cards of a hand.
 use Rattle.std.proofs.Common.{◌≡◌, zero, suc, ◌≤◌, Bool, false, ◌&&◌, ◌||◌, eqb, List, [], ◌∷◌, ◌<◌, length, get_or, refl, ap₂, le_of_suc-le-suc, arith, rules}
+use Rattle.std.specs.List.{list_all}
 use Rattle.cards.specs.declared.card.Card.{Card}
 use Rattle.cards.specs.declared.rank.Rank.{Rank}
-use Rattle.cards.specs.declared.suit.Suit.{Suit}
 use Rattle.cards.specs.declared.rank.Rank.TheVariants.{Two}
+use Rattle.cards.specs.declared.suit.Suit.{Suit}
+use Rattle.cards.specs.declared.suit.Suit.TheVariants.{Clubs}
 use Rattle.cards.specs.contracts.suit.SuitPartialEq.TheImpl as suits
-use Rattle.std.specs.List.{list_all}
 use Rattle.cards.specs.Ranks.{rank_number}
 use Rattle.cards.specs.Suits.{suit_number}
 use Rattle.ranking.specs.Counts.{some_of, AllRanks}
 use Rattle.ranking.specs.Descriptions.{ranks_of, all_of_suit, one_suit}
+
+-- a card to stand for what lies past a list's end
+pub any_card : Card
+any_card = record { rank = Two; suit = Clubs }
 
 rank_in_range : (r : Rank) → (2 ≤ rank_number r) × (rank_number r ≤ 14)
 rank_in_range r = search rules

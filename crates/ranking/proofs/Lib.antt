@@ -1,4 +1,4 @@
-pub mod Sorting
+pub mod Counting
 pub mod Arranged
 pub mod OfAKind
 pub mod Patterns

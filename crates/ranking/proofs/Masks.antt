@@ -6,14 +6,21 @@ use lib.Pow.{pow-lt}
 use Rattle.std.proofs.lemmas.Bool.Decides.{nat_tests}
 use Rattle.ranking.specs.Counts.{held, AllRanks}
 use Rattle.ranking.specs.Masks.{masked}
-use Rattle.ranking.proofs.Digits.{digit, digit_or, digit_pow, ones_or, ones_pow}
+use Rattle.std.specs.Int.{bit_at}
+use Rattle.std.proofs.lemmas.Nat.Bits.{bit_at_or, bit_at-pow_same, bit_at-pow_other}
+use Rattle.ranking.proofs.Digits.{ones_or, ones_pow}
+use Rattle.ranking.proofs.Counting.{is}
+
+-- the one digit of a power of two
+bit_at_pow : (r j : ℕ) → bit_at (2 ^ r) j ≡ is r j
+bit_at_pow r j = grind (arith, nat_tests, bit_at-pow_same r, bit_at-pow_other r j)
 
 -- a digit is set where it was, or where its rank is held
-pub digit_masked : (rs : List ℕ) (m j : ℕ) → digit j (masked m rs) ≡ max (digit j m) (min 1 (held rs j))
+pub digit_masked : (rs : List ℕ) (m j : ℕ) → bit_at (masked m rs) j ≡ max (bit_at m j) (min 1 (held rs j))
 digit_masked [] m j = omega arith
 digit_masked (r ∷ rs) m j =
-    let bit : cond (eqb r j) 1 0 ≤ 1 = grind (arith, nat_tests) in
-    omega (arith, digit_masked rs (bit_or m (2 ^ r)) j, digit_or j m (2 ^ r), digit_pow j r)
+    let bit : is r j ≤ 1 = grind (arith, nat_tests) in
+    omega (arith, digit_masked rs (bit_or m (2 ^ r)) j, bit_at_or m (2 ^ r) j, bit_at_pow r j)
 
 -- each rank sets at most one digit
 pub ones_masked : (rs : List ℕ) (m : ℕ) → ones (masked m rs) ≤ ones m + length rs

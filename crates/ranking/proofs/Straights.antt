@@ -1,16 +1,16 @@
 -- Straights by the mask of a hand's ranks: the ranks run from l where the mask is five digits in a row from l.
-use Rattle.std.proofs.Common.{◌≡◌, ℕ, zero, suc, ◌+◌, ◌*◌, ◌/◌, ◌%◌, ◌^◌, ◌<◌, ◌≤◌, min, Bool, true, false, cond, eqb, List, length, is_some, Some, None, Option, sym, refl, ap, ◌∙◌, inl, inr, arith, lit≤, pow_mono}
-use lib.Count.{ones, ones_cat, count_leading_zeros, count_trailing_zeros}
-use Rattle.std.specs.Prelude.{MatchOption, ◌≢◌}
+use Rattle.std.proofs.Common.{◌≡◌, ℕ, zero, suc, ◌+◌, ◌*◌, ◌/◌, ◌%◌, ◌^◌, ◌<◌, ◌≤◌, min, Bool, true, false, cond, eqb, List, length, is_some, Some, None, Option, refl, ap, ◌∙◌, inl, inr, arith, lit≤, pow_mono, pow-add}
+use lib.Count.{ones, ones_cat, ones-ones, count_leading_zeros, count_trailing_zeros}
 use Rattle.std.specs.Bool.{Decides, then_some}
+use Rattle.std.specs.Int.{bit_at}
 use Rattle.std.specs.Option.{option_or, option_and}
 use Rattle.std.proofs.lemmas.Bool.{eq-eqb, ne_eqb, cases_lt}
 use Rattle.std.proofs.lemmas.Bool.Decides.{nat_tests, eqb_tells, same_from_decides, Decides-eqb}
+use Rattle.std.proofs.lemmas.Nat.Bits.{bit_at-zero}
 use Rattle.ranking.specs.Counts.{held, some_of, AllRanks}
-use Rattle.ranking.specs.Masks.{masked}
+use Rattle.ranking.specs.Masks.{masked, RunStart, starts_at, Told}
 use Rattle.ranking.specs.Straights.{has_rank, run_from, straight_starts}
-use Rattle.ranking.specs.Masks.{starts_at, Told}
-use Rattle.ranking.proofs.Digits.{digit, digit_at, digit_below, digit_of_zero, ones_zero, ones_shifted, run_digit, run_place, only_run, run_ones, run_from_zeros, run_leading, run_trailing}
+use Rattle.ranking.proofs.Digits.{ones_shifted, run_digit, run_place, only_run, run_ones, run_from_zeros, run_leading, run_trailing}
 use Rattle.ranking.proofs.Masks.{digit_masked, ones_masked, masked_lt, held_low}
 
 -- each of the five ranks of a run is held
@@ -20,14 +20,14 @@ each_rank f l j lo hi e =
 
 -- Digits l to l + 4 of m tell which ranks are held, and m has no more than five digits set: then the ranks run from l where m is that run.
 run_is : (f : ℕ → ℕ) (m l : ℕ) → ones m ≤ 5
-    → ((j : ℕ) → l ≤ j → j ≤ l + 4 → digit j m ≡ min 1 (f (cond (eqb j 1) 14 j))) → run_from f l ≡ eqb m (31 * 2 ^ l)
+    → ((j : ℕ) → l ≤ j → j ≤ l + 4 → bit_at m j ≡ min 1 (f (cond (eqb j 1) 14 j))) → run_from f l ≡ eqb m (31 * 2 ^ l)
 run_is f m l few shows = same_from_decides (run_from f l) (eqb m (31 * 2 ^ l)) (there, back) (Decides-eqb m (31 * 2 ^ l))
   where
     there : run_from f l ≡ true → m ≡ 31 * 2 ^ l
     there e = only_run m l few (λ j lo hi. grind (arith, nat_tests, shows j lo hi, each_rank f l j lo hi e))
 
     has : m ≡ 31 * 2 ^ l → (j : ℕ) → l ≤ j → j ≤ l + 4 → has_rank f j ≡ true
-    has e j lo hi = grind (arith, nat_tests, shows j lo hi, ap (digit j) e, run_digit l j)
+    has e j lo hi = grind (arith, nat_tests, shows j lo hi, ap (λ n. bit_at n j) e, run_digit l j lo hi)
 
     back : m ≡ 31 * 2 ^ l → run_from f l ≡ true
     back e =
@@ -38,10 +38,6 @@ run_is f m l few shows = same_from_decides (run_from f l) (eqb m (31 * 2 ^ l)) (
           has e (l + 3) (omega arith) (omega arith),
           has e (l + 4) (omega arith) (omega arith),
         )
-
--- what is told of a mask: where it is a run, the place of its lowest digit
-abbrev pub RunStart : ℕ → Option ℕ → Type 0
-RunStart m start = MatchOption start ((l : ℕ) → l ≤ 27 → m ≢ 31 * 2 ^ l) (λ l. m ≡ 31 * 2 ^ l)
 
 -- A mask of 32 digits is a run where it has five ones and 27 zeros at the ends.
 pub run_start_is : (m : ℕ) (b : Bool) → m < 2 ^ 32 → Decides b ((ones m ≡ 5) × (count_leading_zeros 32 m + count_trailing_zeros 32 m ≡ 27))
@@ -94,22 +90,18 @@ same_starts p q is =
 -- A hand of five ranks, with its mask m.
 module _ (rs : List ℕ) (ranks : AllRanks rs) (five : length rs ≡ 5) {m : ℕ} (is : m ≡ masked 0 rs) where
   -- digit j tells whether rank j is held
-  shown : (j : ℕ) → digit j m ≡ min 1 (held rs j)
-  shown j = omega (arith, ap (digit j) is, digit_masked rs 0 j, digit_of_zero j)
+  shown : (j : ℕ) → bit_at m j ≡ min 1 (held rs j)
+  shown j = omega (arith, ap (λ n. bit_at n j) is, digit_masked rs 0 j, bit_at-zero j)
 
   -- at most five digits are set, places 0 and 1 are free, and none is above 14
   few : ones m ≤ 5
-  few = omega (arith, ap ones is, ones_masked rs 0, ones_zero)
+  few = omega (arith, ap ones is, ones_masked rs 0, ones-ones 0)
 
   free : m % 4 ≡ 0
   free = omega (arith, shown 0, shown 1, held_low rs 0 ranks (omega arith), held_low rs 1 ranks (omega arith))
 
   small : m < 2 ^ 15
   small = omega (arith, masked_lt rs 0 ranks (omega arith))
-
-  -- place 1 takes the ace
-  ace_place : m / 16384 ≡ digit 1 (ace_low m)
-  ace_place = omega (arith, small, free)
 
   -- the ranks run from l, two or above, where the mask does
   high_run : (l : ℕ) → 2 ≤ l → run_from (held rs) l ≡ eqb m (31 * 2 ^ l)
@@ -119,14 +111,15 @@ module _ (rs : List ℕ) (ranks : AllRanks rs) (five : length rs ≡ 5) {m : ℕ
   low_run : run_from (held rs) 1 ≡ eqb (ace_low m) 62
   low_run = run_is (held rs) (ace_low m) 1 (omega (arith, few, ones_ace_low m free small)) at
     where
-      rest : m / 2 / 2 ≡ m / 16384 * 2 ^ 12 + ace_low m / 2 / 2
-      rest = omega (arith, small, free)
-
-      at : (j : ℕ) → 1 ≤ j → j ≤ 5 → digit j (ace_low m) ≡ min 1 (held rs (cond (eqb j 1) 14 j))
+      -- place 1 takes the ace, and the others stay
+      at : (j : ℕ) → 1 ≤ j → j ≤ 5 → bit_at (ace_low m) j ≡ min 1 (held rs (cond (eqb j 1) 14 j))
       at zero lo hi = omega arith
-      at (suc zero) lo hi = sym ace_place ∙ omega (arith, sym (digit_at 14 m) ∙ shown 14, small)
-      at (suc (suc j)) lo hi =
-          sym (ap (digit j) rest ∙ digit_below 12 j (m / 16384) (ace_low m / 2 / 2) (omega arith)) ∙ grind (arith, nat_tests, shown (suc (suc j)))
+      at (suc zero) lo hi = omega (arith, shown 14, small, free)
+      at (suc (suc zero)) lo hi = omega (arith, shown 2, small, free)
+      at (suc (suc (suc zero))) lo hi = omega (arith, shown 3, small, free)
+      at (suc (suc (suc (suc zero)))) lo hi = omega (arith, shown 4, small, free)
+      at (suc (suc (suc (suc (suc zero))))) lo hi = omega (arith, shown 5, small, free)
+      at (suc (suc (suc (suc (suc (suc j)))))) lo hi = omega arith
 
   -- a run of the mask starts at two to ten
   start_bounds : (l : ℕ) → m ≡ 31 * 2 ^ l → (2 ≤ l) × (l ≤ 10)
@@ -165,7 +158,7 @@ module _ (rs : List ℕ) (ranks : AllRanks rs) (five : length rs ≡ 5) {m : ℕ
       from_ace zero e = omega (arith, free)
       from_ace (suc zero) e = e
       from_ace (suc (suc l)) e =
-          let no_ace : m / 16384 ≡ 0 = ace_place ∙ ap (digit 1) e ∙ run_digit (suc (suc l)) 1 ∙ grind (arith, nat_tests) in
+          let no_ace : m / 16384 ≡ 0 = omega (arith, small, free, pow-add 2 l 2) in
           let same : m ≡ 31 * 2 ^ suc (suc l) = omega arith in
           absurd (none (suc (suc l)) (omega (arith, start_bounds (suc (suc l)) same)) same)
 

@@ -1,8 +1,7 @@
 // Straights, by a mask of ranks.
-ghost use Rattle.std.specs.Prelude.{◌≡◌, ℕ, ◌+◌, ◌*◌, ◌^◌, ◌<◌, ◌≤◌, MatchOption, ◌≢◌};
+ghost use Rattle.std.specs.Prelude.{◌≡◌};
 ghost use Rattle.ranking.specs.Counts.{held};
-ghost use Rattle.ranking.specs.Masks.{masked};
-ghost use Rattle.ranking.specs.Masks.{Told};
+ghost use Rattle.ranking.specs.Masks.{masked, RunStart, Told};
 
 use crate::ranks::FiveRanks;
 
@@ -11,7 +10,7 @@ const ACE: u32 = 1 << 14;
 
 // Where a mask is five ones in a row, the place of the lowest of them: five ones, and no zero between the zeros above and those below.
 fn run_start(mask: u32) -> Option<u8>
-    ensures { MatchOption result ((l : ℕ) → l ≤ 27 → mask ≢ 31 * 2 ^ l) (λ l. mask ≡ 31 * 2 ^ l) }
+    ensures { RunStart mask result }
 {
     let ones = mask.count_ones();
     let outside = mask.leading_zeros() + mask.trailing_zeros();
