@@ -11,6 +11,7 @@ use search::Ranked;
 
 impl PrintedSheet {
     // The sheet that lists these entries from class 0 up, or none where the list breaks the law.
+    #[tactic(auto, using(crate::proofs::Rising::lawful_is_rising, crate::specs::RisingLaws::rising_is_lawful))]
     pub fn new(entries: [Option<Odds>; 10]) -> Option<PrintedSheet>
         ensures lists_the_entries { entries_of result ≡ entries_if_rising entries }
         ensures made_where_lawful { MadeWhereLawful entries result }
