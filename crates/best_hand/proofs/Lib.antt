@@ -1,6 +1,5 @@
 pub mod AnyOrder
 pub mod Computed
 pub mod HighestValue
-pub mod Mapped
 pub mod Rearrangements
 pub mod Seven

@@ -8,7 +8,7 @@ mod making;
 mod paying;
 
 // As 500 to 1 or 3 to 2. The type keeps both figures in their ranges, so that no payment can divide by zero.
-#[derive(Debug, Clone, Copy, PartialEq, Eq)]
+#[derive(Clone, Copy, Debug, PartialEq, Eq)]
 pub struct Odds {
     numerator: u16,
     denominator: u8,

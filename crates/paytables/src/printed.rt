@@ -7,7 +7,7 @@ use odds::Odds;
 mod listing;
 
 // From class 0 to class 9. The type keeps the law: each entry may follow the one before it.
-#[derive(Debug, Clone, Copy, PartialEq, Eq)]
+#[derive(Clone, Copy, Debug, PartialEq, Eq)]
 pub struct PrintedSheet {
     entries: [Option<Odds>; 10],
     ghost ten: { length entries ≡ 10 },

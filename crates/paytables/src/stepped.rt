@@ -7,7 +7,7 @@ use crate::paytable::Paytable;
 use odds::Odds;
 
 // Any number may be stated: above 9 the sheet has no entry.
-#[derive(Debug, Clone, Copy, PartialEq, Eq)]
+#[derive(Clone, Copy, Debug, PartialEq, Eq)]
 pub struct SteppedSheet {
     pub from: u64,
     pub odds: Odds,

@@ -10,7 +10,7 @@ ghost use Rattle.published_sheets.specs.Published.{to_1, published_entries};
 use odds::Odds;
 use paytables::printed::PrintedSheet;
 
-#[derive(Debug, Clone, Copy, PartialEq, Eq)]
+#[derive(Clone, Copy, Debug, PartialEq, Eq)]
 pub enum PublishedSheet {
     Blind,
     TripsA,

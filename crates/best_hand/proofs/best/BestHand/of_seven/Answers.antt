@@ -5,7 +5,7 @@ use Rattle.ranking.specs.Values.{value_of}
 use Rattle.best_hand.specs.Best.{highest_value, values_of_choices, best_hand, HighestOfChoices}
 use Rattle.best_hand.proofs.AnyOrder.{best_in_any_order}
 use Rattle.best_hand.proofs.HighestValue.{highest_stands, highest_value_is_one, none_exceeds_highest}
-use Rattle.best_hand.proofs.Mapped.{mapped_by}
+use Rattle.ranking.proofs.Mapped.{mapped_by}
 use Rattle.best_hand.proofs.best.BestHand.of_seven.Goals as goal
 
 pub returns : goal.returns
