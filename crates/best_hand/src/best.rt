@@ -11,7 +11,7 @@ use ranking::value::Value;
 use search::highest;
 
 // The best hand that can be made of seven cards. Hands are compared by their values alone.
-#[derive(Clone, Copy, Debug, PartialEq, Eq)]
+#[derive(Clone, Copy, Debug)]
 pub struct BestHand {
     pub value: Value,
 }
