@@ -1,5 +1,5 @@
 -- Every card has a code, a number from 0 to 51.
-use Rattle.std.specs.Prelude.{ℕ, ◌+◌, ◌-◌, ◌*◌, ◌/◌, ◌%◌, cond, Ok, Err, Result, nat_lt, slice_index_or}
+use Rattle.std.specs.Prelude.{ℕ, ◌+◌, ◌-◌, ◌*◌, ◌/◌, ◌%◌, if◌then◌else◌, Ok, Err, Result, nat_lt, slice_index_or}
 use Rattle.cards.specs.declared.card.Card.{Card}
 use Rattle.cards.specs.declared.fault.CodeFault.{CodeFault}
 use Rattle.cards.specs.declared.fault.CodeFault.TheVariants.{Above51}
@@ -14,7 +14,9 @@ code_of c = 4 * (rank_number c.rank - 2) + suit_number c.suit
 
 -- the card with this code; above 51 there is none
 abbrev pub card_with_code : ℕ → Result Card CodeFault
-card_with_code n = cond (nat_lt 51 n) (Err Above51) (Ok (record { rank = slice_index_or ranks (n / 4) Two; suit = slice_index_or suits (n % 4) Clubs }))
+card_with_code n =
+    if nat_lt 51 n then Err Above51
+    else Ok (record { rank = slice_index_or ranks (n / 4) Two; suit = slice_index_or suits (n % 4) Clubs })
 
 -- the number by which a fault is refused
 abbrev pub code_fault_number : CodeFault → ℕ

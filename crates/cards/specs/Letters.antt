@@ -1,5 +1,5 @@
 -- A card is written as two letters, rank then suit.
-use Rattle.std.specs.Prelude.{◌≡◌, ℕ, cond, List, [], ◌∷◌, Ok, Err, Result, MatchResult, ◌==◌, ◌≢◌}
+use Rattle.std.specs.Prelude.{◌≡◌, ℕ, if◌then◌else◌, List, [], ◌∷◌, Ok, Err, Result, MatchResult, ◌==◌, ◌≢◌}
 use Rattle.cards.specs.declared.card.Card.{Card}
 use Rattle.cards.specs.declared.rank.Rank.{Rank}
 use Rattle.cards.specs.declared.suit.Suit.{Suit}
@@ -11,7 +11,7 @@ use Rattle.cards.specs.Suits.{suit_letter, suits}
 -- the first of a list that has this letter, or a fault where none has it
 abbrev pub lettered : {X : Type 0} → (X → ℕ) → ℕ → TextFault → List X → Result X TextFault
 lettered letter_of l fault [] = Err fault
-lettered letter_of l fault (x ∷ xs) = cond (l == letter_of x) (Ok x) (lettered letter_of l fault xs)
+lettered letter_of l fault (x ∷ xs) = if l == letter_of x then Ok x else lettered letter_of l fault xs
 
 abbrev pub rank_lettered : ℕ → Result Rank TextFault
 rank_lettered l = lettered rank_letter l (NoSuchRank l) ranks

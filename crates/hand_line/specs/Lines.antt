@@ -1,5 +1,5 @@
 -- Lines that come in byte by byte.
-use Rattle.std.specs.Prelude.{◌≡◌, ℕ, cond, List, [], ◌∷◌, ◌++◌, map, length, take, Some, None, Option, ◌==◌}
+use Rattle.std.specs.Prelude.{◌≡◌, ℕ, if◌then◌else◌, List, [], ◌∷◌, ◌++◌, map, length, take, Some, None, Option, ◌==◌}
 use Rattle.std.specs.Option.{option_to_list}
 use Rattle.hand_line.specs.declared.answer.Answer.{Answer}
 use Rattle.hand_line.specs.declared.line.Line.{Line}
@@ -11,15 +11,15 @@ StandsFor kept text = kept ≡ take 15 text
 
 -- the line after one more byte: a newline (character 10) begins the next line
 abbrev pub text_after : List ℕ → ℕ → List ℕ
-text_after text byte = cond (byte == 10) [] (text ++ byte ∷ [])
+text_after text byte = if byte == 10 then [] else text ++ byte ∷ []
 
 -- a newline ends the line, which is then answered
 abbrev pub told_at : List ℕ → ℕ → Option Answer
-told_at text byte = cond (byte == 10) (Some (answer_of text)) None
+told_at text byte = if byte == 10 then Some (answer_of text) else None
 
 -- where the input ends, a line that has begun is answered too
 abbrev pub told_at_end : List ℕ → Option Answer
-told_at_end text = cond (length text == 0) None (Some (answer_of text))
+told_at_end text = if length text == 0 then None else Some (answer_of text)
 
 -- ---- whole inputs
 
@@ -36,7 +36,7 @@ before_lines b (l ∷ ls) = (b ∷ l) ∷ ls
 -- the lines of an input: a newline ends a line, and so does the end of the input where a line has begun
 abbrev pub lines_of : List ℕ → List (List ℕ)
 lines_of [] = []
-lines_of (b ∷ bs) = cond (b == 10) ([] ∷ lines_of bs) (before_lines b (lines_of bs))
+lines_of (b ∷ bs) = if b == 10 then [] ∷ lines_of bs else before_lines b (lines_of bs)
 
 -- whatever input comes in, one answer is told for each of its lines, in their order
 abbrev pub OneAnswerALine : Type 0

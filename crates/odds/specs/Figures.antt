@@ -1,5 +1,5 @@
 -- The figures of odds, and which figures make odds.
-use Rattle.std.specs.Prelude.{ℕ, Bool, true, false, cond, ◌&&◌, T, Some, None, Option, nat_le}
+use Rattle.std.specs.Prelude.{ℕ, Bool, true, false, if◌then◌else◌, ◌&&◌, T, Some, None, Option, nat_le}
 use Rattle.std.proofs.Common.{leb→le}
 use Rattle.odds.specs.declared.Odds.{Odds}
 
@@ -14,12 +14,12 @@ figures (Some odds) = Some (odds.numerator, odds.denominator)
 
 -- two figures, if they make odds
 abbrev pub figures_in_range : ℕ → ℕ → Option (ℕ × ℕ)
-figures_in_range numerator denominator = cond (in_range numerator denominator) (Some (numerator, denominator)) None
+figures_in_range numerator denominator = if in_range numerator denominator then Some (numerator, denominator) else None
 
 -- what follows from a test that is met; nothing where it is not
 abbrev pub where_met : (test : Bool) → (T test → Option Odds) → Option Odds
-where_met true then = then tt
-where_met false then = None
+where_met true made = made tt
+where_met false made = None
 
 -- the odds with these figures, or none where one of them is out of its range
 unfoldable pub odds_of : ℕ → ℕ → Option Odds

@@ -1,5 +1,5 @@
 -- What the delivered makes answer.
-use Rattle.std.specs.Prelude.{◌≡◌, cond, ◌&&◌, List, Some, None, Option, nat_le, slice_index_or}
+use Rattle.std.specs.Prelude.{◌≡◌, if◌then◌else◌, ◌&&◌, List, Some, None, Option, nat_le, slice_index_or}
 use Rattle.std.specs.Option.{option_map}
 use Rattle.odds.specs.declared.Odds.{Odds}
 use Rattle.paytables.specs.declared.printed.PrintedSheet.{PrintedSheet}
@@ -16,7 +16,7 @@ printed_sheet sheet = listed sheet.entries
 
 -- one entry from a stated class up to class 9
 abbrev pub stepped_sheet : SteppedSheet → Sheet
-stepped_sheet sheet class = cond (nat_le sheet.from class && nat_le class 9) (Some sheet.odds) None
+stepped_sheet sheet class = if nat_le sheet.from class && nat_le class 9 then Some sheet.odds else None
 
 -- the entries of a printed sheet, if there is one
 abbrev pub entries_of : Option PrintedSheet → Option (List (Option Odds))
@@ -24,7 +24,7 @@ entries_of = option_map (λ sheet. sheet.entries)
 
 -- a list of entries, if each may follow the one before it
 abbrev pub entries_if_rising : List (Option Odds) → Option (List (Option Odds))
-entries_if_rising entries = cond (rising entries) (Some entries) None
+entries_if_rising entries = if rising entries then Some entries else None
 
 -- a sheet is made of a list exactly where the list keeps the law
 abbrev pub MadeWhereLawful : List (Option Odds) → Option PrintedSheet → Type 0

@@ -1,10 +1,10 @@
 -- How many cards of a hand have a rank, and tests over ranks.
-use Rattle.std.specs.Prelude.{ℕ, zero, suc, ◌+◌, ◌<◌, ◌≤◌, Bool, false, cond, ◌||◌, List, [], ◌∷◌, length, ◌==◌, slice_index}
+use Rattle.std.specs.Prelude.{ℕ, zero, suc, ◌+◌, ◌<◌, ◌≤◌, Bool, false, if◌then◌else◌, ◌||◌, List, [], ◌∷◌, length, ◌==◌, slice_index}
 
 -- how many of these ranks are r
 abbrev pub held : List ℕ → ℕ → ℕ
 held [] r = 0
-held (s ∷ rs) r = cond (s == r) 1 0 + held rs r
+held (s ∷ rs) r = (if s == r then 1 else 0) + held rs r
 
 -- does some number of the list pass the test?
 abbrev pub some_of : (ℕ → Bool) → List ℕ → Bool

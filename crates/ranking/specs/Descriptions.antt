@@ -1,5 +1,5 @@
 -- What each class describes. A hand may meet several descriptions; its class is the best of them.
-use Rattle.std.specs.Prelude.{ℕ, Bool, true, cond, not, ◌&&◌, List, [], ◌∷◌, map, ◌==◌, nat_le}
+use Rattle.std.specs.Prelude.{ℕ, Bool, true, if◌then◌else◌, not, ◌&&◌, List, [], ◌∷◌, map, ◌==◌, nat_le}
 use Rattle.cards.specs.declared.card.Card.{Card}
 use Rattle.cards.specs.Ranks.{rank_number}
 use Rattle.cards.specs.Suits.{suit_number, suits}
@@ -46,7 +46,7 @@ meets NoPair h = true
 -- the first class of the list that the hand meets
 abbrev pub first_met : List Class → List Card → Class
 first_met [] h = NoPair
-first_met (c ∷ cs) h = cond (meets c h) c (first_met cs h)
+first_met (c ∷ cs) h = if meets c h then c else first_met cs h
 
 -- the best class whose description the hand meets
 abbrev pub class_of : List Card → Class

@@ -1,10 +1,10 @@
 -- Straights. `f r` tells how many cards of the hand have rank r.
-use Rattle.std.specs.Prelude.{ℕ, ◌+◌, Bool, cond, ◌&&◌, List, [], ◌∷◌, ◌==◌, nat_le}
+use Rattle.std.specs.Prelude.{ℕ, ◌+◌, Bool, if◌then◌else◌, ◌&&◌, List, [], ◌∷◌, ◌==◌, nat_le}
 use Rattle.ranking.specs.Counts.{some_of}
 
 -- the hand has a card of rank r, where the ace also counts 1
 abbrev pub has_rank : (ℕ → ℕ) → ℕ → Bool
-has_rank f r = nat_le 1 (f (cond (r == 1) 14 r))
+has_rank f r = nat_le 1 (f (if r == 1 then 14 else r))
 
 -- five different ranks that follow one another, the lowest of them l
 abbrev pub run_from : (ℕ → ℕ) → ℕ → Bool

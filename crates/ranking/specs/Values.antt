@@ -1,5 +1,5 @@
 -- The value of a hand of five cards: its class and its five ranks.
-use Rattle.std.specs.Prelude.{◌≡◌, ℕ, ◌<◌, ◌≤◌, true, false, cond, ◌⊎◌, List, [], ◌∷◌, length, MatchBool, slice_index}
+use Rattle.std.specs.Prelude.{◌≡◌, ℕ, ◌<◌, ◌≤◌, true, false, if◌then◌else◌, ◌⊎◌, List, [], ◌∷◌, length, MatchBool, slice_index}
 use Rattle.cards.specs.declared.card.Card.{Card}
 use Rattle.ranking.specs.declared.class.Class.{Class}
 use Rattle.ranking.specs.declared.value.Value.{Value}
@@ -11,7 +11,7 @@ use Rattle.ranking.specs.Arrangement.{arranged}
 
 -- a straight with the ace low reads 5 4 3 2 1
 abbrev pub read_ranks : List Card → List ℕ
-read_ranks h = cond (run_from (count h) 1) (5 ∷ 4 ∷ 3 ∷ 2 ∷ 1 ∷ []) (arranged (ranks_of h))
+read_ranks h = if run_from (count h) 1 then 5 ∷ 4 ∷ 3 ∷ 2 ∷ 1 ∷ [] else arranged (ranks_of h)
 
 unfoldable pub value_of : List Card → Value
 value_of h = record { class = class_of h; ranks = read_ranks h }

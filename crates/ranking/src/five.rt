@@ -1,5 +1,5 @@
 // The value of five cards.
-ghost use Rattle.std.specs.Prelude.{◌≡◌, cond, [], ◌∷◌, is_some};
+ghost use Rattle.std.specs.Prelude.{◌≡◌, [], ◌∷◌, is_some, if◌then◌else◌};
 ghost use Rattle.ranking.specs.Masks.{starts_at};
 ghost use Rattle.ranking.specs.Descriptions.{one_suit};
 ghost use Rattle.ranking.specs.Groups.{joined_class};
@@ -26,7 +26,7 @@ pub fn value_of_five(hand: &[Card; 5]) -> Value
 
 // A straight with the ace low reads 5 4 3 2 1; any other hand by its groups.
 fn read_from(start: Option<u8>, by_groups: [u8; 5]) -> [u8; 5]
-    ensures { result ≡ cond (starts_at start 1) (5 ∷ 4 ∷ 3 ∷ 2 ∷ 1 ∷ []) by_groups }
+    ensures { result ≡ (if starts_at start 1 then 5 ∷ 4 ∷ 3 ∷ 2 ∷ 1 ∷ [] else by_groups) }
 {
     match start {
         Some(1) => [5, 4, 3, 2, 1],

@@ -1,10 +1,10 @@
 -- The highest of a list of ranked things. `below x y` says that y exceeds x.
-use Rattle.std.specs.Prelude.{◌≡◌, ℕ, suc, ◌<◌, Bool, true, false, cond, List, [], ◌∷◌, length, Some, None, Option, slice_index_or}
+use Rattle.std.specs.Prelude.{◌≡◌, ℕ, suc, ◌<◌, Bool, true, false, if◌then◌else◌, List, [], ◌∷◌, length, Some, None, Option, slice_index_or}
 
 module _ {X : Type 0} (below : X → X → Bool) where
   -- x ahead of the highest of the things after it, which is told with its place: x keeps the lead unless that one exceeds it.
   abbrev pub ahead : X → ℕ × X → ℕ × X
-  ahead x rest = cond (below x rest.1) (suc rest.0, rest.1) (0, x)
+  ahead x rest = if below x rest.1 then (suc rest.0, rest.1) else (0, x)
 
   -- The place of the highest of x and the things after it, beside that highest thing itself; of equals the first leads.
   abbrev pub leading : X → List X → ℕ × X
