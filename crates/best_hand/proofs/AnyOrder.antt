@@ -43,7 +43,9 @@ suit_any_order s g h p = none_other h ∙ ap not (sym (list_any-IsPermutation ot
     other c = not (eqb (suit_number c.suit) s)
 
     none_other : (cards : List Card) → all_of_suit s cards ≡ not (list_any other cards)
-    none_other = same_from_clauses (all_of_suit s) (λ cards. not (list_any other cards)) (λ c rest. eqb (suit_number c.suit) s && rest) refl (λ _ _. refl) (λ _ _. search rules)
+    none_other =
+        same_from_clauses (all_of_suit s) (λ cards. not (list_any other cards)) (λ c rest. eqb (suit_number c.suit) s && rest) refl (λ _ _. refl)
+        (λ _ _. search rules)
 
 -- The value of a hand depends on how often it has each rank, and on whether it has one suit.
 module _ (g h : List Card) (same_count : count h ≡ count g) (same_suit : one_suit h ≡ one_suit g) where

@@ -2,7 +2,7 @@
 use Rattle.std.specs.Prelude.{All, Contains}
 use Rattle.std.proofs.Common.{◌≡◌, ℕ, ◌<◌, false, List, [], ◌∷◌, length, get_or, Some, subst, arith}
 use Rattle.std.specs.Cmp.{IsStrictWeakOrder}
-use Rattle.std.proofs.lemmas.List.Elements.{All-nil, Contains-get_or}
+use Rattle.std.proofs.lemmas.List.Elements.{Contains-get_or}
 use Rattle.ranking.specs.declared.value.Value.{Value}
 use Rattle.ranking.specs.Order.{lower}
 use Rattle.ranking.specs.LowerLaws.{lower_asymmetric, lower_chain}
@@ -16,7 +16,9 @@ values_rank = ranks_from_laws lower lower_asymmetric lower_chain
 -- what stands at the place that the search tells
 pub highest_stands : (vs : List Value) (p : ℕ) (d : Value) → highest_place lower vs ≡ Some p → get_or vs p d ≡ highest_value vs
 highest_stands [] p d h = cc
-highest_stands (v ∷ vs) p d h = let is : (leading lower v vs).0 ≡ p = cc in subst (λ q. get_or (v ∷ vs) q d ≡ highest_value (v ∷ vs)) is (leading_stands lower values_rank v vs d)
+highest_stands (v ∷ vs) p d h =
+    let is : (leading lower v vs).0 ≡ p = cc in
+    subst (λ q. get_or (v ∷ vs) q d ≡ highest_value (v ∷ vs)) is (leading_stands lower values_rank v vs d)
 
 pub highest_value_is_one : (vs : List Value) → 0 < length vs → Contains vs (highest_value vs)
 highest_value_is_one [] h = absurd (omega arith)
@@ -25,7 +27,7 @@ highest_value_is_one (v ∷ vs) h =
     (Contains-get_or (v ∷ vs) (leading lower v vs).0 v (highest_place_keeps lower values_rank (v ∷ vs)).0)
 
 pub none_exceeds_highest : (vs : List Value) → All (λ w. lower (highest_value vs) w ≡ false) vs
-none_exceeds_highest [] = All-nil _
-none_exceeds_highest (v ∷ vs) = λ k d within.
+none_exceeds_highest [] k d within = absurd (omega arith)
+none_exceeds_highest (v ∷ vs) k d within =
     subst (λ best. lower best (get_or (v ∷ vs) k d) ≡ false) (leading_stands lower values_rank v vs d)
     ((highest_place_keeps lower values_rank (v ∷ vs)).1 k d within)

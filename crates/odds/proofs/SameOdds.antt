@@ -32,7 +32,8 @@ pub figures_of_odds : (n d : ℕ) → figures (odds_of n d) ≡ figures_in_range
 unfolding odds_of
 figures_of_odds n d =
     let each_test : figures (odds_of n d) ≡ cond (leb 1 n) (cond (leb n 1000) (cond (leb 1 d) (cond (leb d 100) (Some (n, d)) None) None) None) None
-    = figures_where_met (leb 1 n) _ λ _. figures_where_met (leb n 1000) _ λ _. figures_where_met (leb 1 d) _ λ _. figures_where_met (leb d 100) _ λ _. refl in
+    = figures_where_met (leb 1 n) _ λ _. figures_where_met (leb n 1000) _ λ _.
+    figures_where_met (leb 1 d) _ λ _. figures_where_met (leb d 100) _ λ _. refl in
     grind (arith, nat_tests)
 
 -- so whatever has the figures is the odds of the definition

@@ -13,7 +13,8 @@ told_test (Some o) None h = absurd h
 told_test (Some o) (Some p) h = sym (ap not h)
 
 -- where every entry may follow the one before it, the list rises
-neighbours_rise : (e : Option Odds) (es : List (Option Odds)) → ((k : ℕ) → k < length es → true ≡ may_follow (get_or (e ∷ es) k None) (get_or es k None)) → rising_from e es ≡ true
+neighbours_rise : (e : Option Odds) (es : List (Option Odds))
+    → ((k : ℕ) → k < length es → true ≡ may_follow (get_or (e ∷ es) k None) (get_or es k None)) → rising_from e es ≡ true
 neighbours_rise e [] h = refl
 neighbours_rise e (f ∷ es) h =
     let here : true ≡ may_follow e f = h 0 (omega arith) in
@@ -21,12 +22,14 @@ neighbours_rise e (f ∷ es) h =
     grind (arith, nat_tests)
 
 -- where some entry may not, it does not
-neighbours_fall : (e : Option Odds) (es : List (Option Odds)) (k : ℕ) → k < length es → false ≡ may_follow (get_or (e ∷ es) k None) (get_or es k None) → rising_from e es ≡ false
+neighbours_fall : (e : Option Odds) (es : List (Option Odds)) (k : ℕ) → k < length es
+    → false ≡ may_follow (get_or (e ∷ es) k None) (get_or es k None) → rising_from e es ≡ false
 neighbours_fall e [] k l h = absurd (omega arith)
 neighbours_fall e (f ∷ es) zero l h = grind (arith, nat_tests)
 neighbours_fall e (f ∷ es) (suc k) l h = let rest = neighbours_fall f es k (omega arith) h in grind (arith, nat_tests)
 
-pub neighbours_tell : (es : List (Option Odds)) (answer : Bool) → IsAllAdjacentAnswer (λ e next b. b ≡ may_follow e next) es answer → answer ≡ rising es
+pub neighbours_tell : (es : List (Option Odds)) (answer : Bool)
+    → IsAllAdjacentAnswer (λ e next b. b ≡ may_follow e next) es answer → answer ≡ rising es
 neighbours_tell [] true h = refl
 neighbours_tell [] false h = absurd (omega arith)
 neighbours_tell (e ∷ es) true h = sym (neighbours_rise e es (λ k l. rw add-one at (h k None (omega arith))))

@@ -31,7 +31,8 @@ pub no_worse_than_before : (before : Option Odds) (es : List (Option Odds)) → 
 no_worse_than_before before [] h k r = absurd (not-suc-le-zero r)
 no_worse_than_before before (e ∷ es) h zero r = test_tells before e (and_parts _ _ h).0
 no_worse_than_before before (e ∷ es) h (suc k) r =
-    no_worse_chain before e (slice_index_or es k None) (test_tells before e (and_parts _ _ h).0) (no_worse_than_before e es (and_parts _ _ h).1 k (le_of_suc-le-suc r))
+    let both = and_parts _ _ h in
+    no_worse_chain before e _ (test_tells before e both.0) (no_worse_than_before e es both.1 k (le_of_suc-le-suc r))
 
 pub later_no_worse : (before : Option Odds) (es : List (Option Odds)) → rising_from before es ≡ true → (j k : ℕ) → j ≤ k → k < length es
     → NoWorse (slice_index_or es j None) (slice_index_or es k None)

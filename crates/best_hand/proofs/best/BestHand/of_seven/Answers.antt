@@ -20,7 +20,8 @@ returns c =
     mapped_by _ value_of [] _ c.choices.result vs 21 (search rules) c.map-values.ensures.items (λ hand v f g call. search rules)
     ∙ ap (map value_of) c.choices.ensures.in_order_of_places in
     let some_value : 0 < length all = omega (arith, ap length values_are, c.map-values.ensures.items.long) in
-    let value_is : get_or vs p d ≡ highest_value all = highest_stands vs p d (sym c.highest.ensures.place ∙ c.unwrap-first.ensures) ∙ ap highest_value values_are in
+    let value_is : get_or vs p d ≡ highest_value all
+    = highest_stands vs p d (sym c.highest.ensures.place ∙ c.unwrap-first.ensures) ∙ ap highest_value values_are in
     let hand_is : record { value = get_or vs p d } ≡ best_hand cards = λ i. record { value = value_is i } in
     record {
       hand = hand_is;
