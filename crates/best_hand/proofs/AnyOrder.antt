@@ -1,12 +1,10 @@
 -- The best hand does not depend on the order of the cards.
-use Rattle.std.proofs.Common.{◌≡◌, ℕ, Bool, false, cond, ◌&&◌, eqb, List, [], ◌∷◌, not, refl, sym, ap, ap₂, ◌∙◌, arith, rules}
+use Rattle.std.proofs.Common.{◌≡◌, ℕ, ◌+◌, Bool, true, false, cond, ◌&&◌, eqb, List, [], ◌∷◌, refl, ap, ap₂, arith}
 use mathlib.Core.Path.{fun_ext}
 use Rattle.std.specs.List.Sorted.{IsPermutation}
 use Rattle.std.specs.Prelude.{All}
 use Rattle.std.proofs.lemmas.List.Elements.{All-map, All-contains, All-head, All-nil}
-use Rattle.std.specs.List.{list_any, sum_by}
-use Rattle.std.proofs.lemmas.List.Recursion.{is_sum_by, same_from_clauses}
-use Rattle.std.proofs.lemmas.List.Sorted.{IsPermutation-sym, sum_by-IsPermutation, list_any-IsPermutation}
+use Rattle.std.proofs.lemmas.List.Sorted.{IsPermutation-sym}
 use Rattle.cards.specs.declared.card.Card.{Card}
 use Rattle.cards.specs.Ranks.{rank_number}
 use Rattle.cards.specs.Suits.{suit_number}
@@ -23,29 +21,23 @@ use Rattle.ranking.proofs.Lower.{lower_same}
 use Rattle.best_hand.specs.Choices.{choose}
 use Rattle.best_hand.specs.Best.{highest_value, values_of_choices, best_hand}
 use Rattle.best_hand.proofs.HighestValue.{highest_value_is_one, none_exceeds_highest}
-use Rattle.best_hand.proofs.Rearrangements.{AnyOrder, all_unmap, choices_carry}
+use Rattle.best_hand.proofs.Rearrangements.{AnyOrder, any_order, all_unmap, choices_carry}
 
 -- a hand has as many cards of a rank in any order
 count_any_order : (r : ℕ) → AnyOrder (λ h. count h r)
-count_any_order r g h s = counted h ∙ sum_by-IsPermutation has g h s ∙ sym (counted g)
-  where
-    has : Card → ℕ
-    has c = cond (eqb (rank_number c.rank) r) 1 0
+count_any_order r =
+    any_order (λ h. count h r) (λ c n. cond (eqb (rank_number c.rank) r) 1 0 + n) (λ c h. refl) (λ c d n. omega arith)
 
-    counted : (cards : List Card) → count cards r ≡ sum_by has cards
-    counted = is_sum_by (λ cards. count cards r) has refl (λ _ _. refl)
+and_exchanged : (a b c : Bool) → (a && (b && c)) ≡ (b && (a && c))
+and_exchanged true b c = refl
+and_exchanged false true c = refl
+and_exchanged false false c = refl
 
--- its cards have the suit in any order: none has another
+-- its cards have the suit in any order
 suit_any_order : (s : ℕ) → AnyOrder (all_of_suit s)
-suit_any_order s g h p = none_other h ∙ ap not (sym (list_any-IsPermutation other g h p)) ∙ sym (none_other g)
-  where
-    other : Card → Bool
-    other c = not (eqb (suit_number c.suit) s)
-
-    none_other : (cards : List Card) → all_of_suit s cards ≡ not (list_any other cards)
-    none_other =
-        same_from_clauses (all_of_suit s) (λ cards. not (list_any other cards)) (λ c rest. eqb (suit_number c.suit) s && rest) refl (λ _ _. refl)
-        (λ _ _. search rules)
+suit_any_order s =
+    any_order (all_of_suit s) (λ c rest. eqb (suit_number c.suit) s && rest) (λ c h. refl)
+    (λ c d rest. and_exchanged (eqb (suit_number c.suit) s) (eqb (suit_number d.suit) s) rest)
 
 -- The value of a hand depends on how often it has each rank, and on whether it has one suit.
 module _ (g h : List Card) (same_count : count h ≡ count g) (same_suit : one_suit h ≡ one_suit g) where

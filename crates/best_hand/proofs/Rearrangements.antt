@@ -1,5 +1,5 @@
 -- Lists with the same things in another order, and the choices from them.
-use Rattle.std.proofs.Common.{◌≡◌, ℕ, zero, suc, ◌+◌, ◌<◌, List, [], ◌∷◌, ◌++◌, map, length, get_or, set, sym, refl, subst, le_of_suc-le-suc, not-suc-le-zero, arith}
+use Rattle.std.proofs.Common.{◌≡◌, ℕ, zero, suc, ◌+◌, ◌<◌, List, [], ◌∷◌, ◌++◌, map, length, get_or, set, sym, refl, ap, ◌∙◌, subst, le_of_suc-le-suc, not-suc-le-zero, arith}
 use Rattle.std.specs.List.Sorted.{IsPermutation}
 use Rattle.std.specs.Prelude.{All, swap}
 use Rattle.std.proofs.lemmas.List.{get_or-map, get_or_append_left, get_or-append-add, length-append, length-map}
@@ -45,6 +45,21 @@ module _ {X : Type 0} (R : List X → List X → Type 0) (s : Steps R) where
 -- f gives the same for a list in any order
 abbrev pub AnyOrder : {X Y : Type 0} → (List X → Y) → Type 0
 AnyOrder {X} f = (xs ys : List X) → IsPermutation xs ys → f ys ≡ f xs
+
+-- What is worked out from a list one thing at a time is the same in any order, if it is for any two things.
+pub any_order : {X Y : Type 0} (f : List X → Y) (more : X → Y → Y)
+    → ((x : X) (xs : List X) → f (x ∷ xs) ≡ more x (f xs))
+    → ((x y : X) (z : Y) → more x (more y z) ≡ more y (more x z))
+    → AnyOrder f
+any_order {X} f more first two = shuffled_tied (λ xs ys. f ys ≡ f xs) record {
+  itself = λ xs. refl;
+  onward = λ xs ys zs h k. k ∙ h;
+  below = λ x xs ys h. first x ys ∙ ap (more x) h ∙ sym (first x xs);
+  across = λ x y xs. first_two y x xs ∙ two y x (f xs) ∙ sym (first_two x y xs);
+}
+  where
+    first_two : (x y : X) (xs : List X) → f (x ∷ y ∷ xs) ≡ more x (more y (f xs))
+    first_two x y xs = first x (y ∷ xs) ∙ ap (more x) (first y xs)
 
 module _ {X : Type 0} (P : X → Type 0) where
   -- what holds of all of a joined list holds of all of each part

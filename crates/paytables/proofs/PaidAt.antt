@@ -2,7 +2,7 @@
 use Rattle.std.proofs.Common.{ℕ, ◌≤◌, Some, None, Option, zero-le}
 use Rattle.odds.specs.declared.Odds.{Odds}
 use Rattle.odds.proofs.Payments.{larger_wager_pays_no_less, no_lower_odds_pay_no_less}
-use Rattle.paytables.specs.Sheets.{NoWorse, entry_pays}
+use Rattle.paytables.specs.Sheets.{Sheet, NoWorse, Lawful, entry_pays, paid_at}
 
 pub no_worse_pays_no_less : (first second : Option Odds) → NoWorse first second → (wager : ℕ) → entry_pays first wager ≤ entry_pays second wager
 no_worse_pays_no_less None second h wager = zero-le
@@ -12,3 +12,10 @@ no_worse_pays_no_less (Some odds) (Some better) h wager = no_lower_odds_pay_no_l
 pub entry_pays_larger_no_less : (entry : Option Odds) (wager larger : ℕ) → wager ≤ larger → entry_pays entry wager ≤ entry_pays entry larger
 entry_pays_larger_no_less None wager larger h = zero-le
 entry_pays_larger_no_less (Some odds) wager larger h = larger_wager_pays_no_less odds wager larger h
+
+module _ (sheet : Sheet) (class wager : ℕ) where
+  pub better_class_pays_no_less : Lawful sheet → (better : ℕ) → class ≤ better → better ≤ 9 → paid_at sheet class wager ≤ paid_at sheet better wager
+  better_class_pays_no_less law better h k = no_worse_pays_no_less (sheet class) (sheet better) (law.better_class_no_worse class better h k) wager
+
+  pub larger_wager_is_paid_no_less : (larger : ℕ) → wager ≤ larger → paid_at sheet class wager ≤ paid_at sheet class larger
+  larger_wager_is_paid_no_less larger h = entry_pays_larger_no_less (sheet class) wager larger h

@@ -24,7 +24,7 @@ pub fn entry_pays(entry: Option<Odds>, wager: u32) -> u64
 }
 
 // What a sheet pays at a class on a wager.
-#[tactic(auto, using(crate::proofs::PaidAt::no_worse_pays_no_less, crate::proofs::PaidAt::entry_pays_larger_no_less))]
+#[tactic(auto, using(crate::proofs::PaidAt::better_class_pays_no_less, crate::proofs::PaidAt::larger_wager_is_paid_no_less))]
 pub fn paid_at<P: Paytable>(paytable: &P, class: u64, wager: u32) -> u64
     ensures paid { result ≡ paid_at (P.sheet paytable.now) class wager }
     ensures rounded_down { RoundedDownAt (P.sheet paytable.now class) wager result }

@@ -11,8 +11,11 @@ use Rattle.ranking.specs.contracts.class.ClassPartialOrd.TheImpl as classes
 use Rattle.ranking.specs.contracts.value.ValuePartialOrd.TheImpl as values
 use Rattle.ranking.specs.Classes.{class_number}
 use Rattle.ranking.specs.Order.{lower, lower_ranks}
-use Rattle.ranking.specs.LowerLaws.{numbers}
 use Rattle.ranking.proofs.BestClass.{same_number}
+
+-- the class and the ranks as one list of numbers, which the order reads from the left
+abbrev numbers : Value → List ℕ
+numbers v = class_number v.class ∷ v.ranks
 
 -- the derived order of classes is that of their numbers
 by_number : (c d : Class) → classes.ghosts.partial_cmp c d ≡ Some (nat_cmp (class_number c) (class_number d))
