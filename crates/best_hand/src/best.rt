@@ -23,6 +23,7 @@ impl BestHand {
         ensures highest { HighestOfChoices cards.now result.value }
         ensures any_order { (others : List Card) → IsPermutation cards.now others → (best_hand others).value ≡ result.value }
     {
+        // the closure has a clause, since of one that borrows its parameter nothing is known without
         let values = choices(cards).map(
             |hand|
                 ensures { result ≡ value_of hand }

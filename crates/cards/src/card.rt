@@ -74,7 +74,7 @@ impl TryFrom<[char; 2]> for Card {
 }
 
 impl Card {
-    // The card at the front of a line, and the rest of the line behind its two letters.
+    // The card at the front of a line, and the rest of the line behind its two letters: no conversion, since a rest is left.
     pub fn read(line: &[u8]) -> Result<(Card, &[u8]), TextFault>
         ensures card { MatchResult result (λ p. card_in_front line.now ≡ Ok p.0) (λ fault. card_in_front line.now ≡ Err fault) }
         ensures rest { IfOk result (λ p. p.1.now ≡ drop 2 line.now) }

@@ -12,7 +12,8 @@ pub struct Line {
     kept: ArrayVec<u8, 15>,
 }
 
-// A line is seen as the bytes that are kept of it.
+// A line is seen as the bytes that are kept of it. The text itself is nowhere kept, not even for proofs, so the clauses below speak of every text
+// that the bytes stand for.
 impl Model for Line {
     ghost use Rattle.std.specs.Prelude.{ℕ, List};
 

@@ -12,6 +12,7 @@ use cards::suit::Suit;
 pub fn seven_cards(line: &[u8]) -> Option<[Card; 7]>
     ensures seven_different { result ≡ seven_cards line.now }
 {
+    // every place is read over; cards that come in one by one would want a default card too, or memory
     let unread = Card {
         rank: Rank::Two,
         suit: Suit::Clubs,

@@ -7,7 +7,8 @@ ghost use Rattle.odds.specs.LowerLaws.{lower_one_way, lower_chain};
 use crate::Odds;
 use search::Ranked;
 
-// Crosswise, so that nothing is rounded. Odds of equal rank may differ in their figures, as 3 to 2 and 6 to 4.
+// Crosswise, so that nothing is rounded. Odds of equal rank may differ in their figures, as 3 to 2 and 6 to 4, and a derived order would compare
+// one figure after the other.
 impl Ranked for Odds {
     ghost below = { lower };
 

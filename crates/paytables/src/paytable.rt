@@ -4,7 +4,8 @@ ghost use Rattle.paytables.specs.Sheets.{Sheet, Lawful, entry_pays, paid_at, Rou
 
 use odds::Odds;
 
-// Classes are asked for by number, 0 to 9, and any number may come. An entry keeps its ranges by its type.
+// Classes are asked for by number, 0 to 9, and any number may come: a rule of the table, so a class is no enum here. An entry keeps its ranges
+// by its type.
 pub trait Paytable {
     // what it answers to each class; it rests on the paytable alone, so the same question always has the same answer
     ghost sheet: { Self → Sheet };
@@ -23,7 +24,7 @@ pub fn entry_pays(entry: Option<Odds>, wager: u32) -> u64
     entry.map_or(0, |odds| odds.pays(wager))
 }
 
-// What a sheet pays at a class on a wager.
+// What a sheet pays at a class on a wager. Any number may come as class.
 #[tactic(auto, using(crate::proofs::PaidAt::better_class_pays_no_less, crate::proofs::PaidAt::larger_wager_is_paid_no_less))]
 pub fn paid_at<P: Paytable>(paytable: &P, class: u64, wager: u32) -> u64
     ensures paid { result ≡ paid_at (P.sheet paytable.now) class wager }

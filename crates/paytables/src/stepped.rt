@@ -18,6 +18,7 @@ impl Paytable for SteppedSheet {
 
     ghost lawful = { Prim.search rules };
 
+    // any number may come as class
     fn entry(&self, class: u64) -> Option<Odds>
         ensures as_stated { result ≡ stepped_sheet self.now class }
     {

@@ -5,7 +5,7 @@ ghost use Rattle.ranking.specs.Descriptions.{ranks_of};
 
 use cards::card::Card;
 
-// The numbers of the ranks, each from 2 to 14.
+// The numbers of the ranks, each from 2 to 14: the mask reckons with numbers, and so does the value, which holds them.
 #[derive(Clone, Copy)]
 pub(crate) struct FiveRanks {
     pub(crate) numbers: [u8; 5],

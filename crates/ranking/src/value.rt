@@ -10,6 +10,7 @@ use search::Ranked;
 #[derive(Clone, Copy, Debug, PartialEq, Eq, PartialOrd, Ord, Hash)]
 pub struct Value {
     pub class: Class,
+    // numbers, since the ace of a low straight reads 1, which is no card's rank
     pub ranks: [u8; 5],
 }
 

@@ -17,6 +17,7 @@ impl Paytable for RateSheet {
 
     ghost lawful = { rate_sheet_is_lawful };
 
+    // any number may come as class
     fn entry(&self, class: u64) -> Option<Odds>
         ensures as_computed { result ≡ rate_sheet self.now class }
     {

@@ -28,6 +28,7 @@ impl Paytable for PrintedSheet {
 
     ghost lawful = { λ sheet. rising_is_lawful sheet.entries sheet.ten sheet.rising };
 
+    // any number may come as class
     fn entry(&self, class: u64) -> Option<Odds>
         ensures as_listed { result ≡ printed_sheet self.now class }
     {
