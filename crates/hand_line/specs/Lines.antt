@@ -5,9 +5,9 @@ use Rattle.hand_line.specs.declared.answer.Answer.{Answer}
 use Rattle.hand_line.specs.declared.line.Line.{Line}
 use Rattle.hand_line.specs.Answers.{answer_of}
 
--- what is kept of a line stands for this text, the line so far: its first fifteen bytes, since a hand has fourteen letters
+-- l stands for this text, the line so far: fifteen bytes of it are kept, since a hand has fourteen letters
 abbrev pub StandsFor : Line → List ℕ → Type 0
-StandsFor kept text = kept ≡ take 15 text
+StandsFor l text = l.kept.items ≡ take 15 text
 
 -- the line after one more byte: a newline (character 10) begins the next line
 abbrev pub text_after : List ℕ → ℕ → List ℕ

@@ -4,8 +4,8 @@ ghost use Rattle.paytables.specs.Sheets.{Sheet, Lawful, entry_pays, paid_at, Rou
 
 use odds::Odds;
 
-// Classes are asked for by number, 0 to 9, and any number may come: a rule of the table, so a class is no enum here. An entry keeps its ranges
-// by its type.
+// Classes are asked for by number, 0 to 9, and any number may come: a rule of the table, so that classes stay numbers here. An entry keeps its
+// ranges by its type.
 pub trait Paytable {
     // what it answers to each class; it rests on the paytable alone, so the same question always has the same answer
     ghost sheet: { Self → Sheet };
