@@ -3,6 +3,7 @@ ghost use Rattle.std.specs.Prelude.{◌≡◌};
 ghost use Rattle.best_hand.specs.Choices.{choose};
 
 // The 21 choices, in order of places.
+#[tactic(auto, using(crate::proofs::Seven::seven_items))]
 pub fn choices<T: Copy>(seven: &[T; 7]) -> [[T; 5]; 21]
     ensures in_order_of_places { result ≡ choose 5 seven.now }
 {

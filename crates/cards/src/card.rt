@@ -17,6 +17,7 @@ pub struct Card {
 impl From<Card> for u8 {
     ghost from_gives = { λ card code. code ≡ code_of card };
 
+    #[tactic(auto, using(crate::proofs::CodeBack::code_reads_back))]
     fn from(card: Card) -> u8
         ensures code { result ≡ code_of card }
         ensures reads_back { card_with_code result ≡ Ok card }
@@ -31,6 +32,7 @@ impl TryFrom<u64> for Card {
 
     ghost try_from_gives = { λ code card. card ≡ card_with_code code };
 
+    #[tactic(auto, using(crate::proofs::CodeBack::code_kept))]
     fn try_from(code: u64) -> Result<Card, CodeFault>
         ensures card { result ≡ card_with_code code }
         ensures same_code { MatchResult result (λ c. code_of c ≡ code) (λ fault. (51 < code) × (code_fault_number fault ≡ 4)) }

@@ -6,6 +6,7 @@ ghost use Rattle.best_hand.specs.Worked.{WorkedHands};
 use crate::answer::Answer;
 
 // A royal flush, a straight with the ace low, and a hand in which the ace joins no ends.
+#[tactic(auto, using(best_hand::proofs::Computed::worked_hands))]
 pub fn worked_hands() -> [Answer; 3]
     ensures rules { WorkedHands }
     ensures answers { result ≡ answer_of (codes "AhKhQhJhTh2c2d") ∷ answer_of (codes "Ac2d3h4s5c9dKd") ∷ answer_of (codes "QcKdAh2s3c7d9h") ∷ [] }

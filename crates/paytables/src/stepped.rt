@@ -22,9 +22,6 @@ impl Paytable for SteppedSheet {
     fn entry(&self, class: u64) -> Option<Odds>
         ensures as_stated { result ≡ stepped_sheet self.now class }
     {
-        if class < self.from || class > 9 {
-            return None;
-        }
-        Some(self.odds)
+        (self.from..=9).contains(&class).then_some(self.odds)
     }
 }

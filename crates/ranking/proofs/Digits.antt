@@ -1,9 +1,10 @@
 -- Numbers of which five digits in a row are set: 31 * 2 ^ l, a run from place l.
-use Rattle.std.proofs.Common.{◌≡◌, ℕ, zero, suc, ◌+◌, ◌-◌, ◌*◌, ◌/◌, ◌%◌, ◌^◌, ◌<◌, ◌≤◌, refl, ap, ◌∙◌, subst, inl, inr, pow-suc, arith, lit≤, pow_pos, pow-add, shr-shr}
+use Rattle.std.proofs.Common.{◌≡◌, ℕ, zero, suc, ◌+◌, ◌-◌, ◌*◌, ◌/◌, ◌%◌, ◌^◌, ◌<◌, ◌≤◌, cond, ◌&&◌, leb, refl, ap, ◌∙◌, subst, ⊎_elim, inl, inr, pow-suc, arith, pow_pos, pow-add, shr-shr}
 use Rattle.std.specs.Int.{bit_at}
-use Rattle.std.proofs.lemmas.Bool.{cases_order}
+use Rattle.std.proofs.lemmas.Bool.{cases_order, cases_lt}
+use Rattle.std.proofs.lemmas.Bool.Decides.{nat_tests}
 use Rattle.std.proofs.lemmas.Nat.{zero_from_ones}
-use Rattle.std.proofs.lemmas.Nat.Bits.{bit_at_mask_inside}
+use Rattle.std.proofs.lemmas.Nat.Bits.{bit_at_mask_inside, bit_at_mask_below, bit_at_mask_above}
 use lib.Arith.{bin_ind}
 use lib.Bits.{bit_or, or_step, shifted_half, shifted_even}
 use lib.Count.{ones, count_leading_zeros, count_trailing_zeros, under, ones_step, ones_cat, ones-ones, ones-le, leading_length, leading_unique}
@@ -24,29 +25,44 @@ ones_shifted a k = let e : a * 2 ^ k ≡ a * 2 ^ k + 0 = omega arith in omega (a
 pub ones_pow : (r : ℕ) → ones (2 ^ r) ≡ 1
 ones_pow r = let e : 2 ^ r ≡ 1 * 2 ^ r = omega arith in ap ones e ∙ ones_shifted 1 r ∙ ones-ones 1
 
+-- the digits of half a number are the later ones of the number
+half_digit : (n j : ℕ) → bit_at (n / 2) j ≡ bit_at n (suc j)
+half_digit n j = let next : 1 + j ≡ suc j = omega arith in ap (λ (x : ℕ). x % 2) (shr-shr n 1 j) ∙ ap (bit_at n) next
+
+halves : (w m : ℕ) → ((j : ℕ) → bit_at w j ≤ bit_at m j) → (j : ℕ) → bit_at (w / 2) j ≤ bit_at (m / 2) j
+halves w m sub j = omega (arith, half_digit w j, half_digit m j, sub (suc j))
+
+-- where each digit of w is set in m too, w has no more of them than m
+pub sub_ones : (w m : ℕ) → ((j : ℕ) → bit_at w j ≤ bit_at m j) → ones w ≤ ones m
+sub_ones =
+    bin_ind (λ (w : ℕ). (m : ℕ) → ((j : ℕ) → bit_at w j ≤ bit_at m j) → ones w ≤ ones m) (λ m sub. omega (arith, ones-ones 0))
+    (λ w ih m sub. omega (arith, ones_step w, ones_step m, sub 0, ih (m / 2) (halves w m sub)))
+
+-- and where it has no fewer either, the two are one number
+pub same_ones : (w m : ℕ) → ((j : ℕ) → bit_at w j ≤ bit_at m j) → ones m ≤ ones w → m ≡ w
+same_ones =
+    bin_ind (λ (w : ℕ). (m : ℕ) → ((j : ℕ) → bit_at w j ≤ bit_at m j) → ones m ≤ ones w → m ≡ w)
+    (λ m sub h. zero_from_ones m (omega (arith, ones-ones 0)))
+    (λ w ih m sub h.
+    let less : ones (w / 2) ≤ ones (m / 2) = sub_ones (w / 2) (m / 2) (halves w m sub) in
+    let rest : ones (m / 2) ≤ ones (w / 2) = omega (arith, ones_step w, ones_step m, sub 0) in
+    omega (arith, ones_step w, ones_step m, sub 0, ih (m / 2) (halves w m sub) rest))
+
 -- a run has five digits set, those from l to l + 4
 pub run_ones : (l : ℕ) → ones (31 * 2 ^ l) ≡ 5
 run_ones l = ones_shifted 31 l ∙ ones-ones 5
 
-pub run_digit : (l j : ℕ) → l ≤ j → j ≤ l + 4 → bit_at (31 * 2 ^ l) j ≡ 1
-run_digit l j lo hi =
+pub run_digit : (l j : ℕ) → bit_at (31 * 2 ^ l) j ≡ cond (leb l j && leb j (l + 4)) 1 0
+run_digit l j =
     let mask : 31 * 2 ^ l ≡ 2 ^ (l + 5) - 2 ^ l = omega (arith, pow-add 2 l 5) in
-    ap (λ n. bit_at n j) mask ∙ bit_at_mask_inside l (l + 5) j lo (omega arith)
+    ap (λ n. bit_at n j) mask
+    ∙ ⊎_elim (λ below. bit_at_mask_below l (l + 5) j below ∙ grind (arith, nat_tests))
+    (λ from. ⊎_elim (λ inside. bit_at_mask_inside l (l + 5) j from inside ∙ grind (arith, nat_tests))
+    (λ above. bit_at_mask_above l (l + 5) j above ∙ grind (arith, nat_tests)) (cases_lt j (l + 5))) (cases_lt j l)
 
--- A number with at most five digits set, those from l to l + 4 among them, is that run: none is left for the digits above and below.
+-- a number with at most five digits set, those from l to l + 4 among them, is that run
 pub only_run : (m l : ℕ) → ones m ≤ 5 → ((j : ℕ) → l ≤ j → j ≤ l + 4 → bit_at m j ≡ 1) → m ≡ 31 * 2 ^ l
-only_run m l few set =
-    let n = m / 2 ^ l in
-    let low = m % 2 ^ l in
-    let digit : (i : ℕ) → i ≤ 4 → n / 2 ^ i % 2 ≡ 1 = λ i h. ap (λ (x : ℕ). x % 2) (shr-shr m l i) ∙ set (l + i) (omega arith) (omega arith) in
-    let five : n ≡ n / 32 * 2 ^ 5 + 31 = omega (arith, digit 0 (lit≤ tt), digit 1 (lit≤ tt), digit 2 (lit≤ tt), digit 3 (lit≤ tt), digit 4 (lit≤ tt)) in
-    let whole : m ≡ n * 2 ^ l + low = omega (arith, pow_pos l) in
-    let counted : ones m ≡ ones (n / 32) + 5 + ones low
-    = omega (arith, ap ones whole, ones_cat l n low (omega (arith, pow_pos l)), ap ones five, ones_cat 5 (n / 32) 31 (omega arith), ones-ones 5) in
-    let above : n / 32 ≡ 0 = zero_from_ones (n / 32) (omega arith) in
-    let below : low ≡ 0 = zero_from_ones low (omega arith) in
-    let is : n ≡ 31 = omega arith in
-    whole ∙ rw (is, below) (omega arith)
+only_run m l few set = same_ones (31 * 2 ^ l) m (λ j. grind (arith, nat_tests, run_digit l j, set j)) (omega (arith, run_ones l))
 
 -- different places give different runs
 pub run_place : (k l : ℕ) → 31 * 2 ^ k ≡ 31 * 2 ^ l → k ≡ l

@@ -1,5 +1,6 @@
 -- The ranks and the suit of the cards of a hand.
-use Rattle.std.proofs.Common.{◌≡◌, zero, suc, ◌≤◌, Bool, false, ◌&&◌, ◌||◌, eqb, List, [], ◌∷◌, ◌<◌, length, get_or, refl, ap₂, le_of_suc-le-suc, arith, rules}
+use Rattle.std.proofs.Math.Bool.{or-false}
+use Rattle.std.proofs.Common.{◌≡◌, zero, suc, ◌≤◌, ◌&&◌, eqb, List, [], ◌∷◌, ◌<◌, length, get_or, refl, ap₂, le_of_suc-le-suc, arith, rules}
 use Rattle.std.specs.List.{list_all}
 use Rattle.cards.specs.declared.card.Card.{Card}
 use Rattle.cards.specs.declared.rank.Rank.{Rank}
@@ -31,11 +32,8 @@ pub all_same_suit : (s : Suit) (h : List Card) → list_all (λ c. suits.ghosts.
 all_same_suit s [] = refl
 all_same_suit s (c ∷ h) = ap₂ ◌&&◌ (same_suit c.suit s) (all_same_suit s h)
 
-or_false : (x : Bool) → (x || false) ≡ x
-or_false x = search rules
-
 with_suit : (s : Suit) (h : List Card) → some_of (λ k. eqb (suit_number s) k && all_of_suit k h) (0 ∷ 1 ∷ 2 ∷ 3 ∷ []) ≡ all_of_suit (suit_number s) (record { rank = Two; suit = s } ∷ h)
-with_suit s h = search (rules, or_false)
+with_suit s h = search (rules, or-false)
 
 -- a hand is of one suit where all have the suit of the first
 pub suit_of_first : (h : List Card) (d : Card) → 0 < length h → one_suit h ≡ all_of_suit (suit_number (get_or h 0 d).suit) h

@@ -1,5 +1,5 @@
 -- The derived order of values is `lower`, and values of which neither is lower are the same value.
-use Rattle.std.proofs.Common.{◌≡◌, ℕ, false, List, [], ◌∷◌, Some, refl, ap, ap₂, arith, rules}
+use Rattle.std.proofs.Common.{◌≡◌, ℕ, Bool, ◌≢◌, nat_lt, false, List, [], ◌∷◌, Some, refl, ap, ap₂, arith, rules}
 use Rattle.std.specs.Cmp.Lexicographic.{slice_partial_cmp}
 use Rattle.std.specs.Ordering.{nat_cmp, is_lt, is_some_and, partial_ordering_then}
 use Rattle.std.proofs.lemmas.Bool.{true≢false}
@@ -11,6 +11,7 @@ use Rattle.ranking.specs.contracts.class.ClassPartialOrd.TheImpl as classes
 use Rattle.ranking.specs.contracts.value.ValuePartialOrd.TheImpl as values
 use Rattle.ranking.specs.Classes.{class_number}
 use Rattle.ranking.specs.Order.{lower, lower_ranks}
+use Rattle.ranking.specs.LowerLaws.{decided}
 use Rattle.ranking.proofs.BestClass.{same_number}
 
 -- the class and the ranks as one list of numbers, which the order reads from the left
@@ -26,13 +27,23 @@ lower_derived v w =
     same_from_slice_cmp_tested nat_cmp is_lt lower_ranks refl (λ _ _. refl) (λ _ _. refl) (λ x y xs ys o h. grind (arith, nat_tests)) (numbers v) (numbers w)
     _ (ap (λ o. is_some_and is_lt (partial_ordering_then o (slice_partial_cmp (λ x y. Some (nat_cmp x y)) v.ranks w.ranks))) (by_number v.class w.class))
 
+-- one number decides, and where it is equal the rest does
+pub decided_neither : (m n : ℕ) (p q : Bool) → decided m n p ≡ false → decided n m q ≡ false → (m ≡ n) × (p ≡ false) × (q ≡ false)
+decided_neither m n p q h k = grind (arith, nat_tests)
+
+pub decided_level : (m n : ℕ) (p : Bool) → m ≡ n → decided m n p ≡ p
+decided_level m n p e = grind (arith, nat_tests)
+
+pub decided_apart : (m n : ℕ) (p : Bool) → m ≢ n → decided m n p ≡ nat_lt m n
+decided_apart m n p ne = grind (arith, nat_tests)
+
 -- lists of which neither is lower are the same
 ranks_same : (rs ss : List ℕ) → lower_ranks rs ss ≡ false → lower_ranks ss rs ≡ false → rs ≡ ss
 ranks_same [] [] h k = refl
 ranks_same [] (s ∷ ss) h k = absurd (true≢false h)
 ranks_same (r ∷ rs) [] h k = absurd (true≢false k)
 ranks_same (r ∷ rs) (s ∷ ss) h k =
-    ap₂ (λ x xs. x ∷ xs) (grind (arith, nat_tests)) (ranks_same rs ss (grind (arith, nat_tests)) (grind (arith, nat_tests)))
+    let d = decided_neither r s (lower_ranks rs ss) (lower_ranks ss rs) h k in ap₂ (λ x xs. x ∷ xs) d.0 (ranks_same rs ss d.1 d.2)
 
 -- values of which neither is lower are the same value
 pub lower_same : (v w : Value) → lower v w ≡ false → lower w v ≡ false → v ≡ w

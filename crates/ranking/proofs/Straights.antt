@@ -27,7 +27,7 @@ run_is f m l few shows = same_from_decides (run_from f l) (eqb m (31 * 2 ^ l)) (
     there e = only_run m l few (λ j lo hi. grind (arith, nat_tests, shows j lo hi, each_rank f l j lo hi e))
 
     has : m ≡ 31 * 2 ^ l → (j : ℕ) → l ≤ j → j ≤ l + 4 → has_rank f j ≡ true
-    has e j lo hi = grind (arith, nat_tests, shows j lo hi, ap (λ n. bit_at n j) e, run_digit l j lo hi)
+    has e j lo hi = grind (arith, nat_tests, shows j lo hi, ap (λ n. bit_at n j) e, run_digit l j)
 
     back : m ≡ 31 * 2 ^ l → run_from f l ≡ true
     back e =

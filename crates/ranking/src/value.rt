@@ -22,6 +22,7 @@ impl Ranked for Value {
 
     ghost chain = { lower_chain };
 
+    #[tactic(auto, using(crate::proofs::Lower::lower_derived, crate::proofs::Lower::lower_same))]
     fn is_below(&self, other: &Value) -> bool
         ensures exceeded { result ≡ lower self.now other.now }
         ensures level_is_same { result ≡ false → lower other.now self.now ≡ false → self.now ≡ other.now }

@@ -5,10 +5,6 @@ use Rattle.ranking.proofs.Hands.{any_card, ranks_lawful}
 use Rattle.ranking.proofs.Mapped.{mapped_by}
 use Rattle.ranking.proofs.ranks.FiveRanks.of.Goals as goal
 
-pub returns : goal.returns
-returns c =
-    mapped_by _ (λ card. rank_number card.rank) any_card _ c.args.hand.now c.map.result 5 (search rules) c.map.ensures.items (λ card r f g call. search rules)
-
 pub invariant_of-result : goal.invariant_of-result
 invariant_of-result c =
     let numbers_are =
