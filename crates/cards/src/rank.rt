@@ -78,7 +78,7 @@ impl From<Rank> for char {
     }
 }
 
-// The rank that a letter stands for. Only these letters: a small `t` is none.
+// The rank that a letter stands for, by cases on the letters. Only these: a small `t` is none.
 impl TryFrom<char> for Rank {
     type Error = TextFault;
 

@@ -45,7 +45,7 @@ impl From<Suit> for char {
     }
 }
 
-// The suit that a letter stands for. Only these letters: a capital `C` is none.
+// The suit that a letter stands for, by cases on the letters. Only these: a capital `C` is none.
 impl TryFrom<char> for Suit {
     type Error = TextFault;
 

@@ -4,6 +4,9 @@ ghost use Rattle.paytables.specs.Sheets.{Sheet, Lawful, entry_pays, paid_at, Rou
 
 use odds::Odds;
 
+// The number of the best class; above it no sheet has an entry.
+pub const BEST_CLASS: u64 = 9;
+
 // Classes are asked for by number, 0 to 9, and any number may come: a rule of the table, so that classes stay numbers here. An entry keeps its
 // ranges by its type.
 pub trait Paytable {

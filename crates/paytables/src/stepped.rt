@@ -3,7 +3,7 @@ ghost use Rattle.std.specs.Prelude.{◌≡◌};
 ghost use Rattle.paytables.specs.Makes.{stepped_sheet};
 ghost use Rattle.std.proofs.Common.{rules};
 
-use crate::paytable::Paytable;
+use crate::paytable::{BEST_CLASS, Paytable};
 use odds::Odds;
 
 // Any number may be stated: above 9 the sheet has no entry.
@@ -22,6 +22,8 @@ impl Paytable for SteppedSheet {
     fn entry(&self, class: u64) -> Option<Odds>
         ensures as_stated { result ≡ stepped_sheet self.now class }
     {
-        (self.from..=9).contains(&class).then_some(self.odds)
+        (self.from..=BEST_CLASS)
+            .contains(&class)
+            .then_some(self.odds)
     }
 }

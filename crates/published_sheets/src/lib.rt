@@ -21,6 +21,7 @@ pub enum PublishedSheet {
 }
 
 impl PublishedSheet {
+    // No conversion of one thing into another form: which sheet is published is looked up.
     #[tactic(auto, using(crate::proofs::Rise::published_entries_rise))]
     pub fn sheet(self) -> PrintedSheet
         ensures entries { result.entries ≡ published_entries self }

@@ -7,6 +7,7 @@ ghost use Rattle.ranking.specs.Values.{value_of, BestDescribed, WellRead};
 
 use crate::class::Class;
 use crate::ranks::FiveRanks;
+use crate::straight::{FROM_ACE, FROM_TEN};
 use crate::value::Value;
 use cards::card::Card;
 
@@ -29,7 +30,7 @@ fn read_from(start: Option<u8>, by_groups: [u8; 5]) -> [u8; 5]
     ensures { result ≡ (if starts_at start 1 then 5 ∷ 4 ∷ 3 ∷ 2 ∷ 1 ∷ [] else by_groups) }
 {
     match start {
-        Some(1) => [5, 4, 3, 2, 1],
+        Some(FROM_ACE) => [5, 4, 3, 2, 1],
         _ => by_groups,
     }
 }
@@ -39,7 +40,7 @@ fn class_from(suited: bool, start: Option<u8>, groups: Class) -> Class
     ensures { result ≡ joined_class suited (is_some start) (starts_at start 10) groups }
 {
     match (suited, start) {
-        (true, Some(10)) => Class::RoyalFlush,
+        (true, Some(FROM_TEN)) => Class::RoyalFlush,
         (true, Some(_)) => Class::StraightFlush,
         (_, _) if groups >= Class::FullHouse => groups,
         (true, None) => Class::Flush,

@@ -5,6 +5,12 @@ ghost use Rattle.ranking.specs.Masks.{masked, RunStart, Told};
 
 use crate::ranks::FiveRanks;
 
+// Where a straight starts is told by the number of its lowest rank: ten for the one up to the ace, and one where the ace stands below the two, which is
+// no card's rank.
+pub(crate) const FROM_TEN: u8 = 10;
+
+pub(crate) const FROM_ACE: u8 = 1;
+
 // The bit of the ace, at place 14.
 const ACE: u32 = 1 << 14;
 
@@ -36,6 +42,6 @@ impl FiveRanks {
         let mask = self.mask();
         // The ace moved from place 14 to place 1, below the two: a run that is there only now starts with it.
         let ace_low = mask % ACE + mask / ACE * 2;
-        run_start(mask).or(run_start(ace_low).and(Some(1)))
+        run_start(mask).or(run_start(ace_low).and(Some(FROM_ACE)))
     }
 }

@@ -4,7 +4,7 @@ ghost use Rattle.sheet_tests.specs.RateSheets.{rate_sheet};
 ghost use Rattle.sheet_tests.specs.Rates.{rate_sheet_is_lawful};
 
 use odds::Odds;
-use paytables::paytable::Paytable;
+use paytables::paytable::{BEST_CLASS, Paytable};
 
 // So many halves of the wager for each class, up to 1,000 halves.
 #[derive(Clone, Copy)]
@@ -21,7 +21,7 @@ impl Paytable for RateSheet {
     fn entry(&self, class: u64) -> Option<Odds>
         ensures as_computed { result ≡ rate_sheet self.now class }
     {
-        if class > 9 {
+        if class > BEST_CLASS {
             return None;
         }
         Odds::new(self.halves.saturating_mul(class).min(1000), 2)

@@ -5,7 +5,7 @@ ghost use Rattle.paytables.specs.Makes.{printed_sheet, entries_of, entries_if_ri
 ghost use Rattle.paytables.specs.RisingLaws.{rising_is_lawful};
 
 use super::PrintedSheet;
-use crate::paytable::Paytable;
+use crate::paytable::{BEST_CLASS, Paytable};
 use odds::Odds;
 use search::Ranked;
 
@@ -32,7 +32,7 @@ impl Paytable for PrintedSheet {
     fn entry(&self, class: u64) -> Option<Odds>
         ensures as_listed { result ≡ printed_sheet self.now class }
     {
-        if class > 9 {
+        if class > BEST_CLASS {
             return None;
         }
         self.entries[class as usize]
