@@ -1,11 +1,10 @@
--- The definition of the highest place keeps its promise, and no other place does.
-use Rattle.std.proofs.Common.{◌≡◌, ℕ, zero, suc, ◌+◌, ◌<◌, Bool, true, false, not, eqb, List, [], ◌∷◌, length, get_or, Some, sym, refl, ap, ap₂, ◌∙◌, subst, ◌⊎◌, inr, ⊎_elim, suc-le-suc, zero-le, le_of_suc-le-suc, not-suc-le-zero, arith}
+-- The definition of the highest place keeps its promise, no other place does, and whoever takes the things one by one from the front ends there.
+use Rattle.std.proofs.Common.{◌≡◌, ℕ, zero, suc, ◌+◌, ◌<◌, Bool, true, false, if◌then◌else◌, List, [], ◌∷◌, length, get_or, Some, sym, refl, ap, ◌∙◌, subst, ⊎_elim, suc-le-suc, zero-le, le_of_suc-le-suc, not-suc-le-zero, arith}
 use Rattle.std.specs.Cmp.{IsStrictWeakOrder}
-use Rattle.std.specs.List.{IsFirstBest}
-use Rattle.std.proofs.lemmas.List.MinMax.{IsFirstBest-unique, IsFirstBest-none, IsFirstBest-takes, IsFirstBest-keeps}
-use Rattle.std.proofs.lemmas.Bool.{cases_Bool, cond-true, cond-false, true≢false, ne_eqb}
-use Rattle.std.specs.Bool.{then_some}
-use Rattle.std.proofs.lemmas.List.{get_or_default}
+use Rattle.std.specs.List.{IsFirstBest, enumerate_from, fold, reduce}
+use Rattle.std.proofs.lemmas.List.MinMax.{IsFirstBest-unique}
+use Rattle.std.proofs.lemmas.Bool.{cases_Bool, cond-true, cond-false}
+use Rattle.std.specs.Option.{option_map}
 use Rattle.search.specs.Highest.{leading, highest_place, FirstHighest}
 
 -- the laws of a ranked kind make its order one of those that the library knows
@@ -15,9 +14,9 @@ pub ranks_from_laws : {X : Type 0} (below : X → X → Bool)
     → IsStrictWeakOrder (λ x y. below y x)
 ranks_from_laws below one_way chain = record { one_way = λ x y. one_way y x; chain = λ x y z h k. chain z y x k h }
 
--- the first highest of the first i things stands at b; before any was seen b is the first place
-abbrev pub BestSoFar : {X : Type 0} → (X → X → Bool) → List X → ℕ → ℕ → Type 0
-BestSoFar below xs i b = ((i ≡ 0) × (b ≡ 0)) ⊎ IsFirstBest (λ x y. below y x) xs i b
+-- of a leader and a thing that comes after it, each beside its place, the one that leads on
+abbrev pub leads_on : {X : Type 0} → (X → X → Bool) → ℕ × X → ℕ × X → ℕ × X
+leads_on below best next = if below best.1 next.1 then next else best
 
 module _ {X : Type 0} (below : X → X → Bool) (o : IsStrictWeakOrder (λ x y. below y x)) where
   abbrev Leads : X → List X → ℕ × X → Type 0
@@ -25,28 +24,6 @@ module _ {X : Type 0} (below : X → X → Bool) (o : IsStrictWeakOrder (λ x y.
 
   none_exceeds_itself : (x : X) → below x x ≡ false
   none_exceeds_itself x = ⊎_elim (λ e. o.one_way x x e) (λ e. e) (cases_Bool (below x x))
-
-  -- one thing more was seen: x, at i, while y leads
-  module _ (xs : List X) (i b : ℕ) (x y : X) (seen : BestSoFar below xs i b) (within : i < length xs) (x_is : x ≡ get_or xs i x) (y_is : y ≡ get_or xs b y) where
-    -- the first thing is compared with itself
-    itself : (i ≡ 0) × (b ≡ 0) → below y x ≡ false
-    itself first =
-        ap₂ below (y_is ∙ ap (λ k. get_or xs k y) first.1 ∙ get_or_default xs 0 y x (omega arith)) (x_is ∙ ap (λ k. get_or xs k x) first.0)
-        ∙ none_exceeds_itself (get_or xs 0 x)
-
-    pub leader_exceeded : below y x ≡ true → BestSoFar below xs (i + 1) i
-    leader_exceeded h =
-        ⊎_elim (λ first. absurd (true≢false (sym h ∙ itself first))) (λ best. inr (IsFirstBest-takes o xs i b x y best within x_is y_is h)) seen
-
-    pub leader_stays : below y x ≡ false → BestSoFar below xs (i + 1) b
-    leader_stays h =
-        ⊎_elim
-        (λ first. inr (subst (λ k. IsFirstBest (λ a c. below c a) xs (k + 1) b) (sym first.0) (subst (IsFirstBest (λ a c. below c a) xs 1) (sym first.1) (IsFirstBest-none o xs))))
-        (λ best. inr (IsFirstBest-keeps o xs i b x y best within x_is y_is h)) seen
-
-  -- the place of the leader is one of the list
-  pub leader_within : (xs : List X) (i b : ℕ) → BestSoFar below xs i b → i < length xs → b < length xs
-  leader_within xs i b seen within = ⊎_elim (λ first. omega arith) (λ best. omega (arith, best.0)) seen
 
   -- the lead goes to the rest, whose highest exceeds x
   passes : (x y : X) (ys : List X) (l : ℕ × X) → Leads y ys l → below x l.1 ≡ true → Leads x (y ∷ ys) (suc l.0, l.1)
@@ -94,9 +71,13 @@ module _ {X : Type 0} (below : X → X → Bool) (o : IsStrictWeakOrder (λ x y.
   highest_place_keeps [] = refl
   highest_place_keeps (x ∷ xs) = (leads x xs).1
 
-  -- all things were seen: the leader's place is told, or none where there was nothing to see
-  pub all_seen : (xs : List X) (i b : ℕ) → BestSoFar below xs i b → i ≡ length xs → then_some (not (eqb (length xs) 0)) b ≡ highest_place below xs
-  all_seen [] i b seen all = refl
-  all_seen (x ∷ xs) i b seen all =
-      ap (λ empty. then_some (not empty) b) (ne_eqb (length (x ∷ xs)) 0 (λ e. omega arith))
-      ∙ ⊎_elim (λ first. absurd (omega arith)) (λ best. is_highest_place (x ∷ xs) b (subst (λ n. IsFirstBest (λ a c. below c a) (x ∷ xs) n b) all best)) seen
+  -- y and the things after it, at m and the places after it, come while x, at n, leads: the highest of them leads on where it exceeds x
+  come : (n m : ℕ) (x y : X) (ys : List X) → fold (leads_on below) (n, x) (enumerate_from m (y ∷ ys)) ≡ leads_on below (n, x) (m + (leading below y ys).0, (leading below y ys).1)
+  come n m x y [] = ap (λ k. leads_on below (n, x) (k, y)) (omega arith)
+  come n m x y (z ∷ zs) = grind (arith, come n (m + 1) x z zs, come m (m + 1) y z zs, o.one_way, o.chain)
+
+  -- all things come, from the first on
+  pub all_come : (xs : List X) → option_map (λ best. best.0) (reduce (leads_on below) (enumerate_from 0 xs)) ≡ highest_place below xs
+  all_come [] = refl
+  all_come (x ∷ []) = refl
+  all_come (x ∷ y ∷ ys) = grind (arith, come 0 1 x y ys)

@@ -22,12 +22,10 @@ pub fn highest<T: Ranked>(items: &[T]) -> Option<usize>
     ensures place { result ≡ highest_place T.below items.now }
     ensures none_exceeds { FirstHighest T.below items.now result }
 {
-    let mut best = 0;
-    for (i, item) in items.iter().enumerate() {
-        let exceeded = items[best].is_below(item);
-        if exceeded {
-            best = i;
-        }
-    }
-    (!items.is_empty()).then_some(best)
+    // of equals the first leads on, where `max_by` would keep the last
+    items
+        .iter()
+        .enumerate()
+        .reduce(|best, next| if best.1.is_below(next.1) { next } else { best })
+        .map(|(place, _)| place)
 }
