@@ -1,2 +1,3 @@
 pub mod CodeBack
 pub mod Different
+pub mod InFront

@@ -1,9 +1,9 @@
 -- Several cards.
-use Rattle.std.specs.Prelude.{ℕ, Bool, true, false, not, ◌&&◌, ◌||◌, List, [], ◌∷◌, Some, None, Ok, Err, Option, Result, ◌==◌}
+use Rattle.std.specs.Prelude.{ℕ, zero, suc, Bool, true, false, not, ◌&&◌, ◌||◌, List, [], ◌∷◌, drop, Some, None, Ok, Err, Option, Result, ◌==◌}
 use Rattle.cards.specs.declared.card.Card.{Card}
 use Rattle.cards.specs.declared.fault.TextFault.{TextFault}
 use Rattle.cards.specs.Codes.{code_of}
-use Rattle.cards.specs.Letters.{card_lettered}
+use Rattle.cards.specs.Letters.{card_lettered, card_in_front}
 
 -- the card is one of the others; cards with the same code are the same card
 abbrev pub among : Card → List Card → Bool
@@ -26,3 +26,14 @@ abbrev pub cards_of : List ℕ → Option (List Card)
 cards_of [] = Some []
 cards_of (r ∷ []) = None
 cards_of (r ∷ s ∷ rest) = in_front (card_lettered r s) (cards_of rest)
+
+-- a card and the cards behind it; of two faults the first
+abbrev pub before_cards : Result Card TextFault → Result (List Card) TextFault → Result (List Card) TextFault
+before_cards (Ok c) (Ok cs) = Ok (c ∷ cs)
+before_cards (Ok c) (Err fault) = Err fault
+before_cards (Err fault) cs = Err fault
+
+-- the first n cards of a line, two letters each; the first fault where one of them is none
+abbrev pub cards_in_front : ℕ → List ℕ → Result (List Card) TextFault
+cards_in_front zero line = Ok []
+cards_in_front (suc n) line = before_cards (card_in_front line) (cards_in_front n (drop 2 line))

@@ -4,5 +4,6 @@
 pub mod card;
 pub mod fault;
 pub mod rank;
+pub mod reading;
 pub mod several;
 pub mod suit;

@@ -1,34 +1,76 @@
--- Reading cards from a text one after another.
-use Rattle.std.proofs.Common.{◌≡◌, ℕ, ◌<◌, ◌≤◌, List, [], ◌∷◌, ◌++◌, length, take, drop, Some, None, Ok, Err, Option, Result, sym, refl, ap, ◌∙◌, arith}
+-- The first cards of a line, and what stands behind them.
+use Rattle.std.proofs.Common.{◌≡◌, ℕ, zero, suc, ◌<◌, ◌*◌, List, [], ◌∷◌, ◌++◌, length, drop, IfSome, Some, None, Ok, Err, MatchResult, Option, Result, sym, subst, refl, ap, ◌∙◌, arith}
+use Rattle.std.specs.Bool.{then_some}
 use Rattle.std.specs.Option.{option_map}
-use Rattle.std.proofs.lemmas.List.{append_assoc, length-append, take_all}
+use Rattle.std.specs.Result.{result_ok}
+use Rattle.std.proofs.lemmas.List.{length-append, append-nil, drop-drop}
+use Rattle.std.proofs.lemmas.Iterator.Adapters.{option_map_id}
 use Rattle.cards.specs.declared.card.Card.{Card}
 use Rattle.cards.specs.declared.fault.TextFault.{TextFault}
 use Rattle.cards.specs.Letters.{card_lettered, card_in_front}
-use Rattle.cards.specs.Several.{in_front, cards_of}
+use Rattle.cards.specs.Several.{different, in_front, cards_of, before_cards, cards_in_front}
 use Rattle.hand_line.specs.Seven.{if_seven_different, seven_cards}
 
 -- cards in front of others, where these are cards
-abbrev pub behind : List Card → Option (List Card) → Option (List Card)
+abbrev behind : List Card → Option (List Card) → Option (List Card)
 behind cs = option_map (λ ds. cs ++ ds)
 
-behind_both : (cs : List Card) (c : Card) (rest : Option (List Card)) → behind cs (in_front (Ok c) rest) ≡ behind (cs ++ c ∷ []) rest
-behind_both cs c None = refl
-behind_both cs c (Some ds) = ap Some (sym (append_assoc cs (c ∷ []) ds))
+abbrev FewerThan : ℕ → Option (List Card) → Type 0
+FewerThan n cards = IfSome cards (λ cs. length cs < n)
+
+-- what the first n cards of a line tell of all that it holds
+abbrev Tells : ℕ → List ℕ → Result (List Card) TextFault → Type 0
+Tells n line first =
+    MatchResult first (λ cs. (length cs ≡ n) × (cards_of line ≡ behind cs (cards_of (drop (2 * n) line)))) (λ _. FewerThan n (cards_of line))
 
 one_read : (line : List ℕ) (c : Card) → card_in_front line ≡ Ok c → cards_of line ≡ in_front (Ok c) (cards_of (drop 2 line))
 one_read [] c e = grind arith
 one_read (r ∷ []) c e = grind arith
 one_read (r ∷ s ∷ rest) c e = ap (λ x. in_front x (cards_of rest)) e
 
--- one card more is read, and comes behind those read before
-pub card_read : (cs : List Card) (c : Card) (line after : List ℕ) → card_in_front line ≡ Ok c → after ≡ drop 2 line
-    → behind cs (cards_of line) ≡ behind (cs ++ c ∷ []) (cards_of after)
-card_read cs c line after e rest =
-    ap (behind cs) (one_read line c e ∙ ap (λ l. in_front (Ok c) (cards_of l)) (sym rest)) ∙ behind_both cs c (cards_of after)
+no_card : (n : ℕ) (line : List ℕ) (fault : TextFault) → card_in_front line ≡ Err fault → FewerThan (suc n) (cards_of line)
+no_card n [] fault e = omega arith
+no_card n (r ∷ []) fault e = tt
+no_card n (r ∷ s ∷ rest) fault e = subst (λ x. FewerThan (suc n) (in_front x (cards_of rest))) (sym e) tt
+
+one_behind : (c : Card) (cs : List Card) (rest : Option (List Card)) → in_front (Ok c) (behind cs rest) ≡ behind (c ∷ cs) rest
+one_behind c cs None = refl
+one_behind c cs (Some ds) = refl
+
+one_fewer : (n : ℕ) (c : Card) (rest : Option (List Card)) → FewerThan n rest → FewerThan (suc n) (in_front (Ok c) rest)
+one_fewer n c None h = tt
+one_fewer n c (Some cs) h = omega arith
+
+-- the first card, and those behind it
+one_more : (n : ℕ) (line : List ℕ) (first : Result Card TextFault) (others : Result (List Card) TextFault) → card_in_front line ≡ first
+    → Tells n (drop 2 line) others → Tells (suc n) line (before_cards first others)
+one_more n line (Err fault) others e told = no_card n line fault e
+one_more n line (Ok c) (Err fault) e told = subst (FewerThan (suc n)) (sym (one_read line c e)) (one_fewer n c (cards_of (drop 2 line)) told)
+one_more n line (Ok c) (Ok cs) e told = (
+  ap suc told.0,
+  one_read line c e ∙ ap (in_front (Ok c)) told.1 ∙ one_behind c cs (cards_of (drop (2 * n) (drop 2 line)))
+      ∙ ap (λ l. behind (c ∷ cs) (cards_of l)) (drop-drop (2 * n) 2 line ∙ ap (λ k. drop k line) (omega arith)),
+)
+
+first_tell : (n : ℕ) (line : List ℕ) → Tells n line (cards_in_front n line)
+first_tell zero line = (refl, sym (option_map_id (cards_of line)))
+first_tell (suc n) line = one_more n line (card_in_front line) (cards_in_front n (drop 2 line)) refl (first_tell n (drop 2 line))
+
+first_are : (n : ℕ) (line : List ℕ) (first : Result (List Card) TextFault) → cards_in_front n line ≡ first → Tells n line first
+first_are n line first e = subst (Tells n line) e (first_tell n line)
 
 pub not_seven : (cs : List Card) → (length cs ≡ 7 → ⊥) → if_seven_different (Some cs) ≡ None
 not_seven cs ne = grind arith
+
+fewer : (cards : Option (List Card)) → FewerThan 7 cards → None ≡ if_seven_different cards
+fewer None h = refl
+fewer (Some cs) h = sym (not_seven cs (λ seven. omega arith))
+
+-- where seven cards were not read, there are not seven
+pub fewer_than_seven : {X : Type 0} (Read : X → Type 0) (line : List ℕ) (result : Result X TextFault)
+    → MatchResult result Read (λ fault. cards_in_front 7 line ≡ Err fault) → result_ok result ≡ None → None ≡ seven_cards line
+fewer_than_seven Read line (Ok x) told none = grind arith
+fewer_than_seven Read line (Err fault) told none = fewer (cards_of line) (first_are 7 line (Err fault) told)
 
 -- something stands behind seven cards
 too_much : (cs : List Card) (rest : List ℕ) → length cs ≡ 7 → 0 < length rest → if_seven_different (behind cs (cards_of rest)) ≡ None
@@ -41,7 +83,23 @@ too_much cs (r ∷ s ∷ rest) seven more = go (card_lettered r s) (cards_of res
     go (Ok c) None = refl
     go (Ok c) (Some ds) = not_seven (cs ++ c ∷ ds) (λ h. omega (arith, length-append cs (c ∷ ds)))
 
--- all seven were read, and the line goes on
-pub seven_and_more : (line rest : List ℕ) (cs : List Card) (i : ℕ) → length cs ≡ 7 → 7 ≤ i → cards_of line ≡ behind (take i cs) (cards_of rest)
-    → 0 < length rest → None ≡ seven_cards line
-seven_and_more line rest cs i seven all read more = grind (arith, take_all, too_much)
+pub seven_and_more : (line rest : List ℕ) (cs : List Card) → cards_in_front 7 line ≡ Ok cs → rest ≡ drop 14 line → 0 < length rest
+    → None ≡ seven_cards line
+seven_and_more line rest cs e behind_them more =
+    let told = first_are 7 line (Ok cs) e in
+    sym (too_much cs rest told.0 more) ∙ ap (λ l. if_seven_different (behind cs (cards_of l))) behind_them ∙ ap if_seven_different (sym told.1)
+
+if_different : (cs : List Card) → length cs ≡ 7 → then_some (different cs) cs ≡ if_seven_different (Some cs)
+if_different cs seven = grind arith
+
+nothing_more : (cs : List Card) (rest : List ℕ) → length rest ≡ 0 → Some cs ≡ behind cs (cards_of rest)
+nothing_more cs [] none = ap Some (sym (append-nil cs))
+nothing_more cs (b ∷ bs) none = absurd (omega arith)
+
+-- nothing stands behind seven cards
+pub seven_alone : (line rest : List ℕ) (cs : List Card) → cards_in_front 7 line ≡ Ok cs → rest ≡ drop 14 line → length rest ≡ 0
+    → then_some (different cs) cs ≡ seven_cards line
+seven_alone line rest cs e behind_them none =
+    let told = first_are 7 line (Ok cs) e in
+    if_different cs told.0
+    ∙ ap if_seven_different (nothing_more cs rest none ∙ ap (λ l. behind cs (cards_of l)) behind_them ∙ sym told.1)

@@ -6,6 +6,7 @@ mod tests {
     use cards::card::Card;
     use cards::fault::TextFault;
     use cards::rank::Rank;
+    use cards::reading::read_cards;
     use cards::suit::Suit;
     use itertools::Itertools;
     use ranking::class::Class;
@@ -85,12 +86,8 @@ mod tests {
 
     // The value of five cards, each by its two letters.
     fn value_of(text: &[u8]) -> Result<Value, TextFault> {
-        let (a, text) = Card::read(text)?;
-        let (b, text) = Card::read(text)?;
-        let (c, text) = Card::read(text)?;
-        let (d, text) = Card::read(text)?;
-        let (e, _) = Card::read(text)?;
-        Ok(value_of_five(&[a, b, c, d, e]))
+        let (cards, _) = read_cards::<5>(text)?;
+        Ok(value_of_five(&cards))
     }
 
     #[test]

@@ -1,27 +1,31 @@
-use Rattle.std.proofs.Common.{refl, ◌≡◌, take, Ok, sym, ap, ◌∙◌, arith, length-set, drop}
-use Rattle.std.proofs.lemmas.List.{take_more_set}
+use Rattle.std.proofs.Common.{◌≡◌, drop, Ok, arith, sym, ap, ◌∙◌}
+use Rattle.std.specs.Bool.{then_some}
 use Rattle.std.proofs.lemmas.Grind.{common_steps}
-use Rattle.std.proofs.lemmas.Iterator.Adapters.{option_map_id}
-use Rattle.cards.specs.Several.{cards_of}
-use Rattle.cards.specs.Letters.{card_in_front}
-use Rattle.hand_line.proofs.Reading.{behind, card_read}
+use Rattle.cards.specs.Several.{cards_in_front}
+use Rattle.hand_line.proofs.Reading.{fewer_than_seven, seven_and_more, seven_alone}
 use Rattle.hand_line.proofs.seven.seven_cards.Goals as goal
 
-pub loop-card-init : goal.loop-card-init
-loop-card-init c = record { seven = refl; read = sym (option_map_id (cards_of c.args.line.now)) }
+pub returns-in_err-cards : goal.returns-in_err-cards
+returns-in_err-cards c = record {
+  seven_different = c.from_residual.ensures
+      ∙ fewer_than_seven _ c.args.line.now c.read_cards.result c.read_cards.ensures.cards (sym c.ok.ensures.value ∙ c.in_err-cards.was);
+}
 
-pub loop-card-preserved : goal.loop-card-preserved
-loop-card-preserved c =
-    let cs = c.loop-card.card-items in
-    let i = c.loop-card.card-index in
-    let before = c.loop-card.rest.now in
-    let card = c.in_ok-card.field-0-0 in
-    let rest = c.in_ok-card.field-0-1.now in
-    let card_is : card_in_front before ≡ Ok card = grind (arith, common_steps) in
-    let rest_is : rest ≡ drop 2 before = grind (arith, common_steps) in
-    let seven = c.loop-card.invariant.seven in
+pub returns-then-not-is_empty : goal.returns-then-not-is_empty
+returns-then-not-is_empty c =
+    let cs = c.in_ok-cards.cards in
+    let rest = c.in_ok-cards.rest.now in
+    let read : cards_in_front 7 c.args.line.now ≡ Ok cs = grind (arith, common_steps) in
+    let behind : rest ≡ drop 14 c.args.line.now = grind (arith, common_steps) in
+    record { seven_different = seven_and_more c.args.line.now rest cs read behind (grind (arith, common_steps)) }
+
+pub returns : goal.returns
+returns c =
+    let cs = c.in_ok-cards.cards in
+    let rest = c.in_ok-cards.rest.now in
+    let read : cards_in_front 7 c.args.line.now ≡ Ok cs = grind (arith, common_steps) in
+    let behind : rest ≡ drop 14 c.args.line.now = grind (arith, common_steps) in
     record {
-      seven = length-set cs i _ ∙ seven;
-      read = c.loop-card.invariant.read ∙ card_read (take i cs) card before rest card_is rest_is
-          ∙ ap (λ l. behind l (cards_of rest)) (sym (take_more_set cs i card (omega arith)));
+      seven_different = c.then_some.ensures ∙ ap (λ b. then_some b cs) c.all_different.ensures.different
+          ∙ seven_alone c.args.line.now rest cs read behind (grind (arith, common_steps));
     }

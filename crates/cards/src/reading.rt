@@ -1,0 +1,26 @@
+// Reading several cards from a line.
+ghost use Rattle.std.specs.Prelude.{◌≡◌, ◌*◌, drop, IfOk, Ok, Err, MatchResult};
+ghost use Rattle.cards.specs.Several.{cards_in_front};
+
+use crate::card::Card;
+use crate::fault::TextFault;
+use crate::rank::Rank;
+use crate::suit::Suit;
+
+// N cards at the front of a line, and the rest of the line behind them.
+pub fn read_cards<const N: usize>(line: &[u8]) -> Result<([Card; N], &[u8]), TextFault>
+    ensures cards { MatchResult result (λ p. cards_in_front N line.now ≡ Ok p.0) (λ fault. cards_in_front N line.now ≡ Err fault) }
+    ensures rest { IfOk result (λ p. p.1.now ≡ drop (2 * N) line.now) }
+{
+    // every place is read over; cards that come in one by one would want a default card too, or memory
+    let unread = Card {
+        rank: Rank::Two,
+        suit: Suit::Clubs,
+    };
+    let mut cards = [unread; N];
+    let mut rest = line;
+    for card in &mut cards {
+        (*card, rest) = Card::read(rest)?;
+    }
+    Ok((cards, rest))
+}
