@@ -11,7 +11,7 @@ returns-in_err-card-clause-cards g c =
     let n = g.row.N in
     let i = c.loop-card.card-index in
     let before = c.loop-card.rest.now in
-    let fault_is : card_in_front before ≡ Err c.in_err-card.field-0.0 = grind (arith, common_steps) in
+    let fault_is : card_in_front before ≡ Err c.in_err-card.field-0.0 = c.in_err-card.ensures.card in
     let places = c.loop-card.invariant.places in
     let all : cards_in_front n c.args.line.now ≡ Err c.in_err-card.field-0.0 =
     c.loop-card.invariant.read ∙ no_card (n - i) (n - (i + 1)) (take i c.loop-card.card-items) _ before (omega arith) fault_is in
@@ -25,8 +25,8 @@ loop-card-preserved g c =
     let before = c.loop-card.rest.now in
     let card = c.in_ok-card.field-0-0 in
     let rest = c.in_ok-card.field-0-1.now in
-    let card_is : card_in_front before ≡ Ok card = grind (arith, common_steps) in
-    let rest_is : rest ≡ drop 2 before = grind (arith, common_steps) in
+    let card_is : card_in_front before ≡ Ok card = c.in_ok-card.ensures.card in
+    let rest_is : rest ≡ drop 2 before = c.in_ok-card.ensures.rest in
     let places = c.loop-card.invariant.places in
     record {
       places = length-set cs i _ ∙ places;
