@@ -12,7 +12,7 @@ pub fn read_cards<const N: usize>(line: &[u8]) -> Result<([Card; N], &[u8]), Tex
     ensures cards { MatchResult result (λ p. cards_in_front N line.now ≡ Ok p.0) (λ fault. cards_in_front N line.now ≡ Err fault) }
     ensures rest { IfOk result (λ p. p.1.now ≡ drop (2 * N) line.now) }
 {
-    // every place is read over; cards that come in one by one would want a default card too, or memory
+    // every place is read over: an `ArrayVec` would want a default card too, and what `try_from_fn` promises would not follow the rest of the line
     let unread = Card {
         rank: Rank::Two,
         suit: Suit::Clubs,

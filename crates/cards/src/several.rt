@@ -10,6 +10,7 @@ pub fn is_among(card: Card, others: &[Card]) -> bool
     others.contains(&card)
 }
 
+// From card to card, since the kit's `all_unique` wants memory.
 pub fn all_different(cards: &[Card]) -> bool
     ensures different { result ≡ different cards.now }
 {

@@ -5,7 +5,8 @@ use arrayvec::ArrayVec;
 
 mod feeding;
 
-// The text itself is nowhere kept, not even for proofs, so the clauses of its methods speak of every text that the kept bytes stand for.
+// The text itself is nowhere kept, and a ghost field, which has to be a fact, cannot hold it; so the clauses of the methods speak of every text that
+// the kept bytes stand for.
 #[derive(Drop)]
 pub struct Line {
     kept: ArrayVec<u8, 15>,

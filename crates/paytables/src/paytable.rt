@@ -7,7 +7,7 @@ use odds::Odds;
 // The number of the best class; above it no sheet has an entry.
 pub const BEST_CLASS: u64 = 9;
 
-// Classes are asked for by number, 0 to 9, and any number may come: a rule of the table, so that classes stay numbers here. An entry keeps its
+// Classes are asked for by number, 0 to 9, and any number may come: a rule of the table, and an enum would ask more of callers. An entry keeps its
 // ranges by its type.
 pub trait Paytable {
     // what it answers to each class; it rests on the paytable alone, so the same question always has the same answer

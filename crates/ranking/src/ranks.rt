@@ -6,7 +6,7 @@ ghost use Rattle.ranking.specs.Descriptions.{ranks_of};
 use cards::card::Card;
 
 // The numbers of the ranks, each from 2 to 14. Numbers, taken once: as ranks they would be turned into numbers for the mask, for the groups and for
-// the value.
+// the value, and their range would be wanted as a fact at each.
 #[derive(Clone, Copy)]
 pub(crate) struct FiveRanks {
     pub(crate) numbers: [u8; 5],
