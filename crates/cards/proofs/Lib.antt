@@ -1,3 +1,4 @@
 pub mod CodeBack
 pub mod Different
 pub mod InFront
+pub mod Written

@@ -1,9 +1,9 @@
 -- Several cards.
-use Rattle.std.specs.Prelude.{ℕ, zero, suc, Bool, true, false, not, ◌&&◌, ◌||◌, List, [], ◌∷◌, drop, Some, None, Ok, Err, Option, Result, ◌==◌}
+use Rattle.std.specs.Prelude.{◌≡◌, ◌++◌, ℕ, zero, suc, Bool, true, false, not, ◌&&◌, ◌||◌, List, [], ◌∷◌, drop, Some, None, Ok, Err, Option, Result, ◌==◌}
 use Rattle.cards.specs.declared.card.Card.{Card}
 use Rattle.cards.specs.declared.fault.TextFault.{TextFault}
 use Rattle.cards.specs.Codes.{code_of}
-use Rattle.cards.specs.Letters.{card_lettered, card_in_front}
+use Rattle.cards.specs.Letters.{card_letters, card_lettered, card_in_front}
 
 -- the card is one of the others; cards with the same code are the same card
 abbrev pub among : Card → List Card → Bool
@@ -37,3 +37,12 @@ before_cards (Err fault) cs = Err fault
 abbrev pub cards_in_front : ℕ → List ℕ → Result (List Card) TextFault
 cards_in_front zero line = Ok []
 cards_in_front (suc n) line = before_cards (card_in_front line) (cards_in_front n (drop 2 line))
+
+-- the letters of cards, one card after the other
+abbrev pub letters_of : List Card → List ℕ
+letters_of [] = []
+letters_of (c ∷ cs) = card_letters c ++ letters_of cs
+
+-- the line is these cards in letters, and then the rest
+abbrev pub InFront : List Card → List ℕ → List ℕ → Type 0
+InFront cs rest line = line ≡ letters_of cs ++ rest

@@ -1,9 +1,10 @@
-use Rattle.std.proofs.Common.{◌≡◌, ◌+◌, ◌-◌, ◌*◌, take, drop, Ok, Err, sym, ap, ◌∙◌, arith, length-set}
+use Rattle.std.proofs.Common.{◌≡◌, ◌+◌, ◌-◌, ◌*◌, ◌++◌, take, drop, Ok, Err, sym, ap, ◌∙◌, arith, length-set}
 use Rattle.std.proofs.lemmas.List.{take_more_set, take_all, drop-drop}
 use Rattle.std.proofs.lemmas.Grind.{common_steps}
 use Rattle.cards.specs.Letters.{card_in_front}
-use Rattle.cards.specs.Several.{cards_in_front}
+use Rattle.cards.specs.Several.{cards_in_front, letters_of}
 use Rattle.cards.proofs.InFront.{behind, card_read, no_card, all_read}
+use Rattle.cards.proofs.Written.{cards_written, none_written, in_err}
 use Rattle.cards.proofs.reading.read_cards.Goals as goal
 
 pub returns-in_err-card-clause-cards : goal.returns-in_err-card-clause-cards
@@ -16,6 +17,16 @@ returns-in_err-card-clause-cards g c =
     let all : cards_in_front n c.args.line.now ≡ Err c.in_err-card.field-0.0 =
     c.loop-card.invariant.read ∙ no_card (n - i) (n - (i + 1)) (take i c.loop-card.card-items) _ before (omega arith) fault_is in
     grind (arith, common_steps)
+
+pub returns-in_err-card-clause-written_so : goal.returns-in_err-card-clause-written_so
+returns-in_err-card-clause-written_so g c =
+    let n = g.row.N in
+    let i = c.loop-card.card-index in
+    let before = c.loop-card.rest.now in
+    let places = c.loop-card.invariant.places in
+    let all : cards_in_front n c.args.line.now ≡ Err c.in_err-card.field-0.0 =
+    c.loop-card.invariant.read ∙ no_card (n - i) (n - (i + 1)) (take i c.loop-card.card-items) _ before (omega arith) c.in_err-card.ensures.card in
+    in_err _ _ _ c.from_residual.ensures.0 (none_written n c.args.line.now _ all)
 
 pub loop-card-preserved : goal.loop-card-preserved
 loop-card-preserved g c =
@@ -42,3 +53,14 @@ returns-clause-cards g c =
     let i = c.loop-card.card-index in
     let places = c.loop-card.invariant.places in
     c.loop-card.invariant.read ∙ all_read (g.row.N - i) (take i cs) c.loop-card.rest.now (omega arith) ∙ ap Ok (take_all i cs (omega arith))
+
+pub returns-clause-written_so : goal.returns-clause-written_so
+returns-clause-written_so g c =
+    let line = c.args.line.now in
+    let cs = c.loop-card.card-items in
+    let i = c.loop-card.card-index in
+    let places = c.loop-card.invariant.places in
+    let all : i ≡ g.row.N = omega arith in
+    let read : cards_in_front g.row.N line ≡ Ok cs =
+    c.loop-card.invariant.read ∙ all_read (g.row.N - i) (take i cs) c.loop-card.rest.now (omega arith) ∙ ap Ok (take_all i cs (omega arith)) in
+    cards_written g.row.N line cs read ∙ ap (λ l. letters_of cs ++ l) (sym (c.loop-card.invariant.rest ∙ ap (λ k. drop (2 * k) line) all))
