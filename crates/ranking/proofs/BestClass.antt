@@ -50,7 +50,7 @@ module _ (h : List Card) where
       (b9.0, λ d more. b9.2 d more (highest_number d))
 
 -- which class the five tests of groups give
-abbrev pick : Bool → Bool → Bool → Bool → Bool → Class
+abbrev pub pick : Bool → Bool → Bool → Bool → Bool → Class
 pick four full three two_pairs pair = cond four FourOfAKind (cond full FullHouse (cond three ThreeOfAKind (cond two_pairs TwoPairs (cond pair OnePair NoPair))))
 
 -- groups better than a flush stand where the list of classes has them

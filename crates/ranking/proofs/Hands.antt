@@ -1,6 +1,6 @@
 -- The ranks and the suit of the cards of a hand.
 use Rattle.std.proofs.Math.Bool.{or-false}
-use Rattle.std.proofs.Common.{◌≡◌, zero, suc, ◌≤◌, ◌&&◌, eqb, List, [], ◌∷◌, ◌<◌, length, get_or, refl, ap₂, le_of_suc-le-suc, arith, rules}
+use Rattle.std.proofs.Common.{◌≡◌, zero, suc, ◌≤◌, Bool, true, ◌&&◌, eqb, List, [], ◌∷◌, ◌<◌, length, get_or, refl, ap₂, le_of_suc-le-suc, arith, rules}
 use Rattle.std.specs.List.{list_all}
 use Rattle.cards.specs.declared.card.Card.{Card}
 use Rattle.cards.specs.declared.rank.Rank.{Rank}
@@ -39,3 +39,7 @@ with_suit s h = search (rules, or-false)
 pub suit_of_first : (h : List Card) (d : Card) → 0 < length h → one_suit h ≡ all_of_suit (suit_number (get_or h 0 d).suit) h
 suit_of_first [] d h = absurd (omega arith)
 suit_of_first (c ∷ h) d _ = with_suit c.suit h
+
+-- four tests joined from the left are the four joined from the right
+pub and_four : (x y z w : Bool) → (((x && y) && z) && w) ≡ (x && (y && (z && (w && true))))
+and_four x y z w = search rules

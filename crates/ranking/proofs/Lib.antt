@@ -1,4 +1,5 @@
 pub mod Counting
+pub mod Sorting
 pub mod Arranged
 pub mod OfAKind
 pub mod Patterns

@@ -38,7 +38,7 @@ pub decided_apart : (m n : ℕ) (p : Bool) → m ≢ n → decided m n p ≡ nat
 decided_apart m n p ne = grind (arith, nat_tests)
 
 -- lists of which neither is lower are the same
-ranks_same : (rs ss : List ℕ) → lower_ranks rs ss ≡ false → lower_ranks ss rs ≡ false → rs ≡ ss
+pub ranks_same : (rs ss : List ℕ) → lower_ranks rs ss ≡ false → lower_ranks ss rs ≡ false → rs ≡ ss
 ranks_same [] [] h k = refl
 ranks_same [] (s ∷ ss) h k = absurd (true≢false h)
 ranks_same (r ∷ rs) [] h k = absurd (true≢false k)

@@ -122,7 +122,7 @@ module _ (rs : List ℕ) (ranks : AllRanks rs) (five : length rs ≡ 5) {m : ℕ
       at (suc (suc (suc (suc (suc (suc j)))))) lo hi = omega arith
 
   -- a run of the mask starts at two to ten
-  start_bounds : (l : ℕ) → m ≡ 31 * 2 ^ l → (2 ≤ l) × (l ≤ 10)
+  pub start_bounds : (l : ℕ) → m ≡ 31 * 2 ^ l → (2 ≤ l) × (l ≤ 10)
   start_bounds l e =
       let top : l ≤ 10 = elim (cases_lt 10 l) [ inl h ↦ omega (arith, small, pow_mono {i = 11} h) | inr h ↦ h ] in
       (above_one l e, top)
@@ -143,14 +143,14 @@ module _ (rs : List ℕ) (ranks : AllRanks rs) (five : length rs ≡ 5) {m : ℕ
       runs (suc (suc k)) lo hi = high_run (suc (suc k)) (omega arith) ∙ high (suc (suc k)) (omega arith) hi
 
   -- a run with the ace high
-  told_high : (l : ℕ) → m ≡ 31 * 2 ^ l → Told (held rs) (Some l)
+  pub told_high : (l : ℕ) → m ≡ 31 * 2 ^ l → Told (held rs) (Some l)
   told_high l e =
       let bounds = start_bounds l e in
       told (Some l) (grind (arith, nat_tests)) (grind (arith, nat_tests, free, small))
       (λ k lo hi. grind (arith, nat_tests, run_place l k, ap (λ (x : ℕ). 31 * 2 ^ x)))
 
   -- no run with the ace high, and one with it low: from the ace, since any other would be a run with the ace high too
-  told_low : ((k : ℕ) → k ≤ 27 → m ≡ 31 * 2 ^ k → ⊥) → (l : ℕ) → ace_low m ≡ 31 * 2 ^ l → Told (held rs) (Some 1)
+  pub told_low : ((k : ℕ) → k ≤ 27 → m ≡ 31 * 2 ^ k → ⊥) → (l : ℕ) → ace_low m ≡ 31 * 2 ^ l → Told (held rs) (Some 1)
   told_low none l e =
       told (Some 1) refl (eq-eqb (ace_low m) 62 (from_ace l e)) (λ k lo hi. grind (arith, nat_tests, none k (omega arith)))
     where
@@ -163,7 +163,7 @@ module _ (rs : List ℕ) (ranks : AllRanks rs) (five : length rs ≡ 5) {m : ℕ
           absurd (none (suc (suc l)) (omega (arith, start_bounds (suc (suc l)) same)) same)
 
   -- no run either way
-  told_none : ((k : ℕ) → k ≤ 27 → m ≡ 31 * 2 ^ k → ⊥) → ((k : ℕ) → k ≤ 27 → ace_low m ≡ 31 * 2 ^ k → ⊥) → Told (held rs) None
+  pub told_none : ((k : ℕ) → k ≤ 27 → m ≡ 31 * 2 ^ k → ⊥) → ((k : ℕ) → k ≤ 27 → ace_low m ≡ 31 * 2 ^ k → ⊥) → Told (held rs) None
   told_none high low =
       told None refl (ne_eqb (ace_low m) 62 (low 1 (omega arith))) (λ k lo hi. ne_eqb m (31 * 2 ^ k) (high k (omega arith)))
 
