@@ -1,6 +1,6 @@
 -- A card among others: equal cards are those with the same code.
 use Rattle.std.proofs.Common.{◌≡◌, Bool, true, ◌&&◌, ◌||◌, eqb, List, [], ◌∷◌, Ok, Result, sym, refl, ap, ap₂, ◌∙◌, ⊎_elim, rules}
-use Rattle.std.proofs.lemmas.Bool.{cases_Bool, eqb-true, eqb-false}
+use Rattle.std.proofs.lemmas.Bool.{cases_Bool, eqb-true, eqb-false, eq-eqb, ne_eqb}
 use Rattle.std.specs.List.{list_any}
 use denote.Enum.Bare.{sameb, same_true, true_same}
 use Rattle.cards.specs.contracts.rank.Rank.{the_type as rank_type}
@@ -29,7 +29,7 @@ same_code_is_same c d e =
     let read : ◌≡◌ {A = Result Card CodeFault} (Ok c) (Ok d) = sym (code_reads_back c) ∙ ap card_with_code e ∙ code_reads_back d in
     cc
 
-same_card_same_code : (c d : Card) → same_card d c ≡ eqb (code_of c) (code_of d)
+pub same_card_same_code : (c d : Card) → same_card d c ≡ eqb (code_of c) (code_of d)
 same_card_same_code c d =
     ⊎_elim
     (λ same. let e = eqb-true (code_of c) (code_of d) same in same_is_same_card d c (sym (same_code_is_same c d e)) ∙ sym same)
@@ -42,3 +42,10 @@ same_card_same_code c d =
 pub any_same_is_among : (c : Card) (ds : List Card) → list_any (λ d. same_card d c) ds ≡ among c ds
 any_same_is_among c [] = refl
 any_same_is_among c (d ∷ ds) = ap₂ ◌||◌ (same_card_same_code c d) (any_same_is_among c ds)
+
+-- a card among others, one at a time: the first has its code, or the others tell
+pub among_same : (c d : Card) (ds : List Card) → code_of c ≡ code_of d → among c (d ∷ ds) ≡ true
+among_same c d ds e = ap (λ same. same || among c ds) (eq-eqb (code_of c) (code_of d) e)
+
+pub among_other : (c d : Card) (ds : List Card) → (code_of c ≡ code_of d → ⊥) → among c (d ∷ ds) ≡ among c ds
+among_other c d ds ne = ap (λ same. same || among c ds) (ne_eqb (code_of c) (code_of d) ne)

@@ -1,4 +1,5 @@
 pub mod CodeBack
 pub mod Different
+pub mod Front
 pub mod InFront
 pub mod Written
