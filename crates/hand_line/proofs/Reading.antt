@@ -1,9 +1,9 @@
 -- The first cards of a line, and what stands behind them.
-use Rattle.std.proofs.Common.{◌≡◌, ℕ, zero, suc, ◌<◌, ◌*◌, List, [], ◌∷◌, ◌++◌, length, drop, IfSome, Some, None, Ok, Err, MatchResult, Option, Result, sym, subst, refl, ap, ◌∙◌, arith}
+use Rattle.std.proofs.Common.{◌≡◌, ℕ, zero, suc, ◌<◌, ◌*◌, ◌⊎◌, List, [], ◌∷◌, ◌++◌, length, drop, IfSome, Some, None, Ok, Err, MatchResult, Option, Result, sym, subst, refl, ap, ◌∙◌, inl, inr, ⊎_elim, arith}
 use Rattle.std.specs.Bool.{then_some}
 use Rattle.std.specs.Option.{option_map}
 use Rattle.std.specs.Result.{result_ok}
-use Rattle.std.proofs.lemmas.List.{length-append, append-nil, drop-drop}
+use Rattle.std.proofs.lemmas.List.{append_assoc, length-append, append-nil, drop-drop}
 use Rattle.std.proofs.lemmas.Iterator.Adapters.{option_map_id}
 use Rattle.cards.specs.declared.card.Card.{Card}
 use Rattle.cards.specs.declared.fault.TextFault.{TextFault}
@@ -12,7 +12,7 @@ use Rattle.cards.specs.Several.{different, in_front, cards_of, before_cards, car
 use Rattle.hand_line.specs.Seven.{if_seven_different, seven_cards}
 
 -- cards in front of others, where these are cards
-abbrev behind : List Card → Option (List Card) → Option (List Card)
+abbrev pub behind : List Card → Option (List Card) → Option (List Card)
 behind cs = option_map (λ ds. cs ++ ds)
 
 abbrev FewerThan : ℕ → Option (List Card) → Type 0
@@ -59,12 +59,46 @@ first_tell (suc n) line = one_more n line (card_in_front line) (cards_in_front n
 first_are : (n : ℕ) (line : List ℕ) (first : Result (List Card) TextFault) → cards_in_front n line ≡ first → Tells n line first
 first_are n line first e = subst (Tells n line) e (first_tell n line)
 
+in_front_behind : (c : Card) (rest : Option (List Card)) → in_front (Ok c) rest ≡ behind (c ∷ []) rest
+in_front_behind c None = refl
+in_front_behind c (Some ds) = refl
+
+-- cards in front of cards in front of others
+behind_both : (cs ds : List Card) (rest : Option (List Card)) → behind cs (behind ds rest) ≡ behind (cs ++ ds) rest
+behind_both cs ds None = refl
+behind_both cs ds (Some es) = ap Some (sym (append_assoc cs ds es))
+
+-- one card more is read, and comes behind those read before
+pub card_read : (cs : List Card) (c : Card) (line after : List ℕ) → card_in_front line ≡ Ok c → after ≡ drop 2 line
+    → behind cs (cards_of line) ≡ behind (cs ++ c ∷ []) (cards_of after)
+card_read cs c line after e rest =
+    ap (behind cs) (one_read line c e ∙ ap (λ l. in_front (Ok c) (cards_of l)) (sym rest)) ∙ ap (behind cs) (in_front_behind c (cards_of after))
+    ∙ behind_both cs (c ∷ []) (cards_of after)
+
+-- no card is read: the text ends here, or it is not all cards
+pub no_read : (line : List ℕ) (f : TextFault) → card_in_front line ≡ Err f → (line ≡ []) ⊎ (cards_of line ≡ None)
+no_read [] f e = inl refl
+no_read (r ∷ []) f e = inr refl
+no_read (r ∷ s ∷ rest) f e = inr (ap (λ x. in_front x (cards_of rest)) e)
+
 pub not_seven : (cs : List Card) → (length cs ≡ 7 → ⊥) → if_seven_different (Some cs) ≡ None
 not_seven cs ne = grind arith
+
+-- too few cards before the text ends or goes wrong
+pub too_few : (cs : List Card) (line : List ℕ) (f : TextFault) → length cs < 7 → card_in_front line ≡ Err f → if_seven_different (behind cs (cards_of line)) ≡ None
+too_few cs line f few e =
+    ⊎_elim (λ end. ap (λ l. if_seven_different (behind cs (cards_of l))) end ∙ ap (λ l. if_seven_different (Some l)) (append-nil cs) ∙ not_seven cs (λ h. omega arith))
+    (λ wrong. ap (λ o. if_seven_different (behind cs o)) wrong) (no_read line f e)
 
 fewer : (cards : Option (List Card)) → FewerThan 7 cards → None ≡ if_seven_different cards
 fewer None h = refl
 fewer (Some cs) h = sym (not_seven cs (λ seven. omega arith))
+
+-- what is told of a result, where it is known to be one that was read
+pub read_told : {X : Type 0} (Read : X → Type 0) (Fault : TextFault → Type 0) (result : Result X TextFault) (x : X) → MatchResult result Read Fault
+    → result_ok result ≡ Some x → Read x
+read_told Read Fault (Ok y) x told is = subst Read (cc) told
+read_told Read Fault (Err fault) x told is = grind arith
 
 -- where seven cards were not read, there are not seven
 pub fewer_than_seven : {X : Type 0} (Read : X → Type 0) (line : List ℕ) (result : Result X TextFault)
@@ -73,7 +107,7 @@ fewer_than_seven Read line (Ok x) told none = grind arith
 fewer_than_seven Read line (Err fault) told none = fewer (cards_of line) (first_are 7 line (Err fault) told)
 
 -- something stands behind seven cards
-too_much : (cs : List Card) (rest : List ℕ) → length cs ≡ 7 → 0 < length rest → if_seven_different (behind cs (cards_of rest)) ≡ None
+pub too_much : (cs : List Card) (rest : List ℕ) → length cs ≡ 7 → 0 < length rest → if_seven_different (behind cs (cards_of rest)) ≡ None
 too_much cs [] seven more = absurd (omega arith)
 too_much cs (r ∷ []) seven more = refl
 too_much cs (r ∷ s ∷ rest) seven more = go (card_lettered r s) (cards_of rest)
