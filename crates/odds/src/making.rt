@@ -10,7 +10,8 @@ impl Odds {
         ensures made { result ≡ odds_of numerator denominator }
         ensures with_these_figures { figures result ≡ figures_in_range numerator denominator }
     {
-        let in_range = (1..=1000).contains(&numerator) && (1..=100).contains(&denominator);
+        // `&` and not `&&`: of two ways and no more the check can name figures at which a wrong range fails
+        let in_range = (1..=1000).contains(&numerator) & (1..=100).contains(&denominator);
         if !in_range {
             return None;
         }
