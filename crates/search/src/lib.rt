@@ -4,7 +4,8 @@
 ghost use Rattle.std.specs.Prelude.{◌≡◌, Bool, true, false};
 ghost use Rattle.search.specs.Highest.{highest_place, FirstHighest};
 
-// A ranked thing. Its order is total: of two things one exceeds the other or they are equal in rank, and things of equal rank may still differ.
+// A ranked thing. Its order is total: of two things one exceeds the other or they are equal in rank, and things of equal rank may still differ, which
+// `Ord` would not have.
 pub trait Ranked {
     // `below x y`: y exceeds x
     ghost below: { Self → Self → Bool };
