@@ -1,9 +1,9 @@
 -- The first cards of a line, and what stands behind them.
-use Rattle.std.proofs.Common.{◌≡◌, ℕ, zero, suc, ◌<◌, ◌*◌, ◌⊎◌, List, [], ◌∷◌, ◌++◌, length, drop, IfSome, Some, None, Ok, Err, MatchResult, Option, Result, sym, subst, refl, ap, ◌∙◌, inl, inr, ⊎_elim, arith}
+use Rattle.std.proofs.Common.{◌≡◌, ℕ, zero, suc, ◌<◌, ◌≤◌, if◌then◌else◌, ◌*◌, ◌⊎◌, List, [], ◌∷◌, ◌++◌, length, take, drop, IfSome, Some, None, Ok, Err, MatchResult, Option, Result, sym, subst, refl, ap, ◌∙◌, inl, inr, ⊎_elim, arith}
 use Rattle.std.specs.Bool.{then_some}
 use Rattle.std.specs.Option.{option_map}
 use Rattle.std.specs.Result.{result_ok}
-use Rattle.std.proofs.lemmas.List.{append_assoc, length-append, append-nil, drop-drop}
+use Rattle.std.proofs.lemmas.List.{append_assoc, length-append, append-nil, drop-drop, take_all, nil_from_length}
 use Rattle.std.proofs.lemmas.Iterator.Adapters.{option_map_id}
 use Rattle.cards.specs.declared.card.Card.{Card}
 use Rattle.cards.specs.declared.fault.TextFault.{TextFault}
@@ -137,3 +137,20 @@ seven_alone line rest cs e behind_them none =
     let told = first_are 7 line (Ok cs) e in
     if_different cs told.0
     ∙ ap if_seven_different (nothing_more cs rest none ∙ ap (λ l. behind cs (cards_of l)) behind_them ∙ sym told.1)
+
+-- nothing stands behind seven cards, by the cards themselves
+pub just_seven : (cs : List Card) → length cs ≡ 7 → if_seven_different (behind cs (cards_of [])) ≡ (if different cs then Some cs else None)
+just_seven cs seven =
+    let told : if_seven_different (Some cs) ≡ (if different cs then Some cs else None) = grind arith in
+    ap if_seven_different (sym (nothing_more cs [] refl)) ∙ told
+
+-- The same where the cards were read one by one, seven of them, and what stands behind them is told by its length.
+module _ (line rest : List ℕ) (cs : List Card) (i : ℕ) (seven : length cs ≡ 7) (all : 7 ≤ i) (read : cards_of line ≡ behind (take i cs) (cards_of rest)) where
+  seven_read : cards_of line ≡ behind cs (cards_of rest)
+  seven_read = read ∙ ap (λ l. behind l (cards_of rest)) (take_all i cs (omega arith))
+
+  pub seven_and_more_behind : 0 < length rest → None ≡ seven_cards line
+  seven_and_more_behind more = sym (ap if_seven_different seven_read ∙ too_much cs rest seven more)
+
+  pub seven_at_end : length rest ≡ 0 → seven_cards line ≡ (if different cs then Some cs else None)
+  seven_at_end end = ap if_seven_different (seven_read ∙ ap (λ l. behind cs (cards_of l)) (nil_from_length rest end)) ∙ just_seven cs seven
